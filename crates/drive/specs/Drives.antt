@@ -1,0 +1,98 @@
+-- Document 01, "Conditions and settings" and "Ticks, medium calls, resets", as far as they speak of the drive alone.
+use mathlib.Core.Bool.{Bool, _&&_, cond}
+use mathlib.Core.List.{List}
+use Prim.Native.Nat.{ℕ, _+_}
+use lib.Dec.{leb, ltb}
+use Rattle.rows.specs.Rows.{foldAt, mapAt}
+use Rattle.drive.specs.Conditions.{conditionAt, depth}
+use Rattle.drive.specs.declared.Setting.{Setting}
+use Rattle.drive.specs.declared.Record.{Record}
+use Rattle.drive.specs.declared.Power.{Power}
+use Rattle.drive.specs.declared.Power.the-variants.{Active, Low}
+use Rattle.drive.specs.declared.Cause.the-variants.{Timer}
+use Rattle.drive.specs.declared.Drive.{Drive}
+use Rattle.drive.specs.declared.Made.{Made}
+
+-- ---- the builders: no other literal of a record or a drive
+
+-- A record with another saved and another current setting.
+abbrev pub withSettings : Setting → Setting → Record → Record
+withSettings s t r = record {
+  supported = r .supported;
+  saveable = r .saveable;
+  changeable = r .changeable;
+  recovery = r .recovery;
+  default = r .default;
+  saved = s;
+  current = t;
+}
+
+abbrev pub withRecords : List Record → Drive → Drive
+withRecords rs d = record { records = rs; power = d .power; idle = d .idle }
+
+abbrev pub withIdle : ℕ → Drive → Drive
+withIdle n d = record { records = d .records; power = d .power; idle = record { 0 = n } }
+
+-- Every change of condition is this one.
+abbrev pub entered : Power → Drive → Drive
+entered p d = record { records = d .records; power = p; idle = d .idle }
+
+-- ---- the idle count
+
+-- "sets the idle count to 0".
+abbrev pub restarted : Drive → Drive
+restarted d = withIdle 0 d
+
+-- "adds 1 to the idle count, which stays at 65,535".
+abbrev pub counted : ℕ → ℕ → ℕ
+counted top n = cond (ltb n top) (n + 1) n
+
+-- ---- a tick
+
+-- "whose current setting is enabled with timer at most the count".
+abbrev pub ranOut : ℕ → Record → Bool
+ranOut count r = r .current .enabled && leb (r .current .timer .0) count
+
+-- "the lowest-power condition whose current setting is enabled with timer at most the count", with the cause timer; Active if there is none.
+-- The conditions stand in falling power and each has its say in turn, so the last one that has run out is the lowest.
+abbrev pub heard : ℕ → ℕ → Record → Power → Power
+heard count place r asked = cond (ranOut count r) (Low (conditionAt place) Timer) asked
+
+unfoldable pub timersAsk : List Record → ℕ → Power
+timersAsk rs count = foldAt (heard count) 0 Active rs
+
+-- "is entered, cause timer, if it is below the present one; else nothing moves".
+abbrev pub lowered : Power → Drive → Drive
+lowered asked d = cond (ltb (depth (d .power)) (depth asked)) (entered asked d) d
+
+-- "A tick .. adds 1 to the idle count .. Then the lowest-power condition .. is entered".
+unfoldable pub ticked : ℕ → Drive → Drive
+ticked top d = lowered (timersAsk (d .records) (counted top (d .idle .0))) (withIdle (counted top (d .idle .0)) d)
+
+-- ---- the medium, power-on, manufacture
+
+-- "A read or write makes the unit Active, idle count 0".
+unfoldable pub used : Drive → Drive
+used d = entered Active (restarted d)
+
+-- "Power-on: current becomes saved for all five; Active; idle count 0".
+abbrev pub savedRestored : ℕ → Record → Record
+savedRestored place r = withSettings (r .saved) (r .saved) r
+
+unfoldable pub poweredOn : Drive → Drive
+poweredOn d = used (withRecords (mapAt savedRestored 0 (d .records)) d)
+
+-- "At manufacture current, saved and default agree": Active, idle count 0.
+abbrev pub madeRecord : ℕ → Made → Record
+madeRecord place m = record {
+  supported = m .supported;
+  saveable = m .saveable;
+  changeable = m .changeable;
+  recovery = m .recovery;
+  default = m .default;
+  saved = m .default;
+  current = m .default;
+}
+
+unfoldable pub made : List Made → Drive
+made ms = record { records = mapAt madeRecord 0 ms; power = Active; idle = record { 0 = 0 } }
