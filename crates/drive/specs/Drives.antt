@@ -96,3 +96,13 @@ madeRecord place m = record {
 
 unfoldable pub made : List Made → Drive
 made ms = record { records = mapAt madeRecord 0 ms; power = Active; idle = record { 0 = 0 } }
+
+-- What the maker said of a condition: the part of its record that no call changes.
+abbrev pub makerOf : Record → Made
+makerOf r = record {
+  supported = r .supported;
+  saveable = r .saveable;
+  changeable = r .changeable;
+  recovery = r .recovery;
+  default = r .default;
+}

@@ -1,6 +1,6 @@
 -- Document 01, "Conditions and settings": when the records of the five conditions are well formed.
 -- The largest timer is a parameter, `top`; recovery times have a bound of their own.
-use mathlib.Core.Bool.{Bool, not, _&&_, _||_}
+use mathlib.Core.Bool.{Bool, false, not, _&&_, _||_}
 use mathlib.Core.List.{List}
 use Prim.Native.Nat.{ℕ}
 use lib.Dec.{leb, eqb}
@@ -29,6 +29,18 @@ abbrev pub othersZero : Record → Bool
 othersZero r =
     not (r .saveable) && not (r .changeable) && eqb (r .recovery .0) 0
     && settingZero (r .default) && settingZero (r .saved) && settingZero (r .current)
+
+-- So this is the record of every unsupported condition.
+abbrev pub unsupported : Record
+unsupported = record {
+  supported = false;
+  saveable = false;
+  changeable = false;
+  recovery = record { 0 = 0 };
+  default = record { enabled = false; timer = record { 0 = 0 } };
+  saved = record { enabled = false; timer = record { 0 = 0 } };
+  current = record { enabled = false; timer = record { 0 = 0 } };
+}
 
 -- One condition's record.
 unfoldable pub recordWellFormed : ℕ → Record → Bool

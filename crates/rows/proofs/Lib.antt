@@ -1,3 +1,7 @@
+pub mod Copied
 pub mod Folds
+pub mod Last
+pub mod Mapped
 pub mod Places
+pub mod Some
 pub mod Written

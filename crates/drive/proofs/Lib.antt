@@ -1,0 +1,4 @@
+pub mod Conditions
+pub mod Ticks
+pub mod WellFormed
+pub mod Maker

@@ -1,0 +1,68 @@
+-- The clauses of the abort, apart as the paper has them and together as the code tests them.
+use mathlib.Core.Path.{_≡_, refl, ap, _∙_}
+use mathlib.Core.Bool.{Bool, true, false, not, _&&_, _||_}
+use mathlib.Core.List.{List}
+use Prim.Native.Nat.{ℕ}
+use Rattle.rows.specs.Rows.{someAt}
+use Rattle.rows.proofs.Some.{or-right, some-same, some-or, some-when}
+use Rattle.drive.specs.declared.Record.{Record}
+use Rattle.epc.specs.Epc.{subOf, named, save, selects, isGoTo, isEvery, isUnlisted, selectedWithout, aborts}
+use Rattle.epc.specs.Inner.{misread, misnamed, selectedBarred}
+use Rattle.epc.specs.declared.Registers.{Registers}
+use Rattle.epc.specs.declared.Named.{Named}
+
+spread : (s a b c d e : Bool) → (s && (a || b && c || d && e)) ≡ (s && a || b && (s && c) || d && (s && e))
+spread true a b c d e = refl
+spread false a true c true e = refl
+spread false a true c false e = refl
+spread false a false c true e = refl
+spread false a false c false e = refl
+
+-- One walk that asks whether a selected condition bars the subcommand finds what the three clauses find, each with a walk of its own.
+barred-apart : (n : Named) (goes saves : Bool) (rs : List Record)
+    → someAt (selectedBarred n goes saves) 0 rs
+    ≡ (selectedWithout (λ r. r .supported) n rs || not goes && selectedWithout (λ r. r .changeable) n rs || saves && selectedWithout (λ r. r .saveable) n rs)
+barred-apart n goes saves rs =
+    let a : ℕ → Record → Bool = λ i r. selects n i r && not (r .supported) in
+    let b : ℕ → Record → Bool = λ i r. selects n i r && not (r .changeable) in
+    let d : ℕ → Record → Bool = λ i r. selects n i r && not (r .saveable) in
+    some-same (selectedBarred n goes saves) (λ i r. a i r || not goes && b i r || saves && d i r) 0 rs
+    (λ i r. spread (selects n i r) (not (r .supported)) (not goes) (not (r .changeable)) saves (not (r .saveable)))
+    ∙ some-or (λ i r. a i r || not goes && b i r) (λ i r. saves && d i r) 0 rs
+    ∙ ap (λ (x : Bool). x || someAt (λ i r. saves && d i r) 0 rs) (some-or a (λ i r. not goes && b i r) 0 rs)
+    ∙ rw (some-when (not goes) b 0 rs, some-when saves d 0 rs)
+
+-- The order in which the clauses are joined does not matter.
+joined : (m u g s a b c : Bool) → (m || (u || g) || s || (a || b || c)) ≡ (m || u || s || a || g || b || c)
+joined true u g s a b c = refl
+joined false true g s a b c = refl
+joined false false true true a b c = refl
+joined false false true false true b c = refl
+joined false false true false false b c = refl
+joined false false false true a b c = refl
+joined false false false false true b c = refl
+joined false false false false false b c = refl
+
+-- What the code decides is what the paper's clauses say.
+pub together : (q : Registers) (rs : List Record)
+    → (misread q (subOf (q .lba)) || misnamed (isGoTo (subOf (q .lba))) (named (q .count))
+    || not (someAt (selects (named (q .count))) 0 rs)
+    || someAt (selectedBarred (named (q .count)) (isGoTo (subOf (q .lba))) (save (q .lba))) 0 rs)
+    ≡ aborts q rs
+unfolding aborts
+together q rs =
+    let sub = subOf (q .lba) in
+    let n = named (q .count) in
+    rw (barred-apart n (isGoTo sub) (save (q .lba)) rs)
+    (joined (misread q sub) (isUnlisted n) (isGoTo sub && isEvery n) (not (someAt (selects n) 0 rs)) (selectedWithout (λ r. r .supported) n rs)
+    (not (isGoTo sub) && selectedWithout (λ r. r .changeable) n rs)
+    (save (q .lba) && selectedWithout (λ r. r .saveable) n rs))
+
+-- Where nothing aborts, no selected condition bars the subcommand.
+pub none-barred : (q : Registers) (rs : List Record) → aborts q rs ≡ false
+    → someAt (selectedBarred (named (q .count)) (isGoTo (subOf (q .lba))) (save (q .lba))) 0 rs ≡ false
+none-barred q rs h =
+    or-right
+    (misread q (subOf (q .lba)) || misnamed (isGoTo (subOf (q .lba))) (named (q .count)) || not (someAt (selects (named (q .count))) 0 rs))
+    _
+    (together q rs ∙ h)

@@ -1,0 +1,30 @@
+-- One condition is selected by its place.
+use borrow.Author.Needs.{needs}
+use Rattle.epc.proofs.selects.Statement.{statement}
+use Rattle.epc.proofs.selects.Tie as tie
+
+enum-known-n : tie.Need-enum-known-n
+enum-known-n c = search needs
+
+place-of-requires : tie.Need-place-of-requires
+place-of-requires c κs = search needs
+
+enum-told : tie.Need-enum-told
+enum-told c = search needs
+
+enum-told-2 : tie.Need-enum-told-2
+enum-told-2 c = search needs
+
+returns : tie.Need-returns
+returns c = rw (c .before .before .n .given .1, c .place-of .ensures .0)
+
+returns-2 : tie.Need-returns-2
+returns-2 c = search needs
+
+returns-3 : tie.Need-returns-3
+returns-3 c = search needs
+
+pub selects-spec : {M : Type 1} → statement M
+selects-spec =
+    tie.close
+    (tie.spec enum-known-n place-of-requires enum-told enum-told-2 returns returns-2 returns-3)

@@ -1,0 +1,165 @@
+-- Document 01, "EPC registers": what SET FEATURES EPC selects, when it aborts and what it changes.
+use mathlib.Core.Bool.{Bool, true, false, not, _&&_, _||_, cond}
+use mathlib.Core.List.{List}
+use Prim.Native.Nat.{ℕ}
+use lib.Dec.{eqb}
+use Rattle.rows.specs.Rows.{someAt, mapAt}
+use Rattle.drive.specs.Conditions.{placeOf}
+use Rattle.drive.specs.Drives.{withSettings, withRecords, entered, restarted}
+use Rattle.drive.specs.declared.Condition.{Condition}
+use Rattle.drive.specs.declared.Condition.the-variants.{IdleA, IdleB, IdleC, StandbyY, StandbyZ}
+use Rattle.drive.specs.declared.Cause.the-variants.{Command}
+use Rattle.drive.specs.declared.Power.the-variants.{Low}
+use Rattle.drive.specs.declared.Setting.{Setting}
+use Rattle.drive.specs.declared.Record.{Record}
+use Rattle.drive.specs.declared.Drive.{Drive}
+use Rattle.epc.specs.Bits.{bits, bit, someOne}
+use Rattle.epc.specs.declared.Registers.{Registers}
+use Rattle.epc.specs.declared.Sub.{Sub}
+use Rattle.epc.specs.declared.Sub.the-variants.{Restore, GoTo, SetTimer, SetState, Unknown}
+use Rattle.epc.specs.declared.Named.{Named}
+use Rattle.epc.specs.declared.Named.the-variants.{One, Every, Unlisted}
+
+-- ---- the registers
+
+-- "LBA bits 3:0 are the subcommand"; "Sub: 0h restore, 1h go to, 2h timer, 3h state".
+abbrev pub subOf : ℕ → Sub
+subOf lba =
+    cond (eqb (bits 3 0 lba) 0) Restore
+    (cond (eqb (bits 3 0 lba) 1) GoTo
+    (cond (eqb (bits 3 0 lba) 2) SetTimer
+    (cond (eqb (bits 3 0 lba) 3) SetState Unknown)))
+
+-- "Other LBA bits": "6 from default", "5 enable", "4 save", "23:8 timer".
+abbrev pub fromDefault : ℕ → Bool
+fromDefault lba = bit 6 lba
+
+abbrev pub enable : ℕ → Bool
+enable lba = bit 5 lba
+
+abbrev pub save : ℕ → Bool
+save lba = bit 4 lba
+
+abbrev pub timerIn : ℕ → ℕ
+timerIn lba = bits 23 8 lba
+
+-- "Bits not named are reserved": LBA comes as 32 bits, and those above 28 are named by no subcommand.
+abbrev pub reservedOne : Sub → ℕ → Bool
+reservedOne Restore lba = someOne 5 5 lba || someOne 31 7 lba
+reservedOne GoTo lba = someOne 31 4 lba
+reservedOne SetTimer lba = someOne 7 6 lba || someOne 31 24 lba
+reservedOne SetState lba = someOne 31 6 lba
+reservedOne Unknown lba = false
+
+-- "Count names the condition: 00h Standby_z, 01h Standby_y, 81h Idle_A, 82h Idle_B, 83h Idle_C, FFh every supported one".
+abbrev pub countCode : Condition → ℕ
+countCode IdleA = 0x81
+countCode IdleB = 0x82
+countCode IdleC = 0x83
+countCode StandbyY = 0x01
+countCode StandbyZ = 0x00
+
+abbrev pub named : ℕ → Named
+named count =
+    cond (eqb count 0x00) (One StandbyZ)
+    (cond (eqb count 0x01) (One StandbyY)
+    (cond (eqb count 0x81) (One IdleA)
+    (cond (eqb count 0x82) (One IdleB)
+    (cond (eqb count 0x83) (One IdleC)
+    (cond (eqb count 0xFF) Every Unlisted)))))
+
+-- Whether the condition at a place is selected.
+abbrev pub selects : Named → ℕ → Record → Bool
+selects (One c) place r = eqb place (placeOf c)
+selects Every place r = r .supported
+selects Unlisted place r = false
+
+-- ---- the abort
+
+abbrev pub isUnknown : Sub → Bool
+isUnknown Restore = false
+isUnknown GoTo = false
+isUnknown SetTimer = false
+isUnknown SetState = false
+isUnknown Unknown = true
+
+abbrev pub isGoTo : Sub → Bool
+isGoTo Restore = false
+isGoTo GoTo = true
+isGoTo SetTimer = false
+isGoTo SetState = false
+isGoTo Unknown = false
+
+abbrev pub isUnlisted : Named → Bool
+isUnlisted (One c) = false
+isUnlisted Every = false
+isUnlisted Unlisted = true
+
+abbrev pub isEvery : Named → Bool
+isEvery (One c) = false
+isEvery Every = true
+isEvery Unlisted = false
+
+-- Some selected condition fails the test.
+abbrev pub selectedWithout : (Record → Bool) → Named → List Record → Bool
+selectedWithout has n rs = someAt (λ place r. selects n place r && not (has r)) 0 rs
+
+-- "Aborted exactly if:"
+unfoldable pub aborts : Registers → List Record → Bool
+aborts q rs =
+    -- "command or feature differs;"
+    not (eqb (q .command) 0xEF) || not (eqb (q .feature) 0x4A)
+    -- "subcommand above 3h;"
+    || isUnknown (subOf (q .lba))
+    -- "a reserved bit is one;"
+    || reservedOne (subOf (q .lba)) (q .lba)
+    -- "Count not listed;"
+    || isUnlisted (named (q .count))
+    -- "no selected condition, or one unsupported;"
+    || not (someAt (selects (named (q .count))) 0 rs) || selectedWithout (λ r. r .supported) (named (q .count)) rs
+    -- "go to with FFh;"
+    || isGoTo (subOf (q .lba)) && isEvery (named (q .count))
+    -- "for 0h, 2h, 3h, any selected one not changeable;"
+    || not (isGoTo (subOf (q .lba))) && selectedWithout (λ r. r .changeable) (named (q .count)) rs
+    -- "bit 4 one and any selected one not saveable."
+    || save (q .lba) && selectedWithout (λ r. r .saveable) (named (q .count)) rs
+
+-- ---- "Effect on each selected condition"
+
+-- "current becomes default (bit 6 one) or saved; with bit 4, saved takes the same setting".
+abbrev pub restoredFrom : ℕ → Record → Setting
+restoredFrom lba r = cond (fromDefault lba) (r .default) (r .saved)
+
+-- "current timer set; flag is enable and timer nonzero; bit 4: saved likewise".
+abbrev pub timerSet : ℕ → Setting
+timerSet lba = record { enabled = enable lba && not (eqb (timerIn lba) 0); timer = record { 0 = timerIn lba } }
+
+-- "current flag is enable and current timer nonzero; bit 4: saved flag likewise from the saved timer".
+abbrev pub flagSet : ℕ → Setting → Setting
+flagSet lba s = record { enabled = enable lba && not (eqb (s .timer .0) 0); timer = s .timer }
+
+-- Without bit 4 the saved setting stays.
+abbrev pub savedToo : ℕ → Setting → Record → Setting
+savedToo lba s r = cond (save lba) s (r .saved)
+
+abbrev pub changed : Sub → ℕ → Record → Record
+changed Restore lba r = withSettings (savedToo lba (restoredFrom lba r) r) (restoredFrom lba r) r
+changed GoTo lba r = r
+changed SetTimer lba r = withSettings (savedToo lba (timerSet lba) r) (timerSet lba) r
+changed SetState lba r = withSettings (savedToo lba (flagSet lba (r .saved)) r) (flagSet lba (r .current)) r
+changed Unknown lba r = r
+
+abbrev pub changedAt : Registers → ℕ → Record → Record
+changedAt q place r = cond (selects (named (q .count)) place r) (changed (subOf (q .lba)) (q .lba) r) r
+
+-- "unit enters the condition, cause command".
+abbrev pub goneTo : Named → Drive → Drive
+goneTo (One c) d = entered (Low c Command) d
+goneTo Every d = d
+goneTo Unlisted d = d
+
+-- An accepted subcommand; it, "like every accepted call but a tick or a log page read, sets the idle count to 0".
+unfoldable pub performed : Registers → Drive → Drive
+performed q d =
+    cond (isGoTo (subOf (q .lba))) (goneTo (named (q .count)) (restarted d))
+    (withRecords (mapAt (changedAt q) 0 (d .records)) (restarted d))

@@ -1,0 +1,5 @@
+pub mod Bytes
+pub mod Page
+pub mod Words
+pub mod Codes
+pub mod ReadBack

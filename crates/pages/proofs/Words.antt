@@ -1,0 +1,74 @@
+-- What stands at each word of the log: sixteen words a record, by the record's place, and zeros from there on.
+use mathlib.Core.Path.{_≡_, refl, ap, _∙_}
+use mathlib.Core.List.{List, [], _∷_, _++_}
+use Prim.Native.Nat.{ℕ, zero, suc, _+_, _-_, _*_, _<_, _≤_}
+use native.Mathlib.Nat.{zero-add, not-suc-le-zero, le-of-suc-le-suc}
+use native.Mathlib.Omega.{arith}
+use lib.Dec.{lit<}
+use lib.ListN.{length, getD, replicate, getD-replicate, List·getD-append}
+use lib.Seq.{getD-append-add}
+use Rattle.drive.specs.declared.Condition.{Condition}
+use Rattle.drive.specs.declared.Condition.the-variants.{IdleA, IdleB, IdleC, StandbyY, StandbyZ}
+use Rattle.drive.specs.declared.Record.{Record}
+use Rattle.drive.specs.Conditions.{placeOf}
+use Rattle.pages.specs.Logs.{namedWords, logPlace, descriptors, logWords}
+use Rattle.pages.proofs.Page.{descriptors-length}
+
+-- The table of word places: sixteen words a condition, in falling power.
+place-words : (c : Condition) → logPlace c ≡ 16 * placeOf c
+place-words IdleA = refl
+place-words IdleB = refl
+place-words IdleC = refl
+place-words StandbyY = refl
+place-words StandbyZ = refl
+
+place-below : (c : Condition) → placeOf c < 5
+place-below IdleA = lit< tt
+place-below IdleB = lit< tt
+place-below IdleC = lit< tt
+place-below StandbyY = lit< tt
+place-below StandbyZ = lit< tt
+
+descriptor-at : (rs : List Record) (place k : ℕ) (z : Record) (d : ℕ) → place < length rs → k < 16
+    → getD (descriptors rs) (16 * place + k) d ≡ getD (namedWords (getD rs place z) ++ replicate 8 0) k d
+unfolding descriptors
+descriptor-at [] place k z d h m = absurd (not-suc-le-zero h)
+descriptor-at (r ∷ rs) zero k z d h m = rw zero-add (List·getD-append (namedWords r ++ replicate 8 0) (descriptors rs) d k m)
+descriptor-at (r ∷ rs) (suc place) k z d h m =
+    let next : 16 * suc place + k ≡ 16 + (16 * place + k) = omega arith in
+    rw next (getD-append-add (namedWords r ++ replicate 8 0) (descriptors rs) (16 * place + k) d
+    ∙ descriptor-at rs place k z d (le-of-suc-le-suc h) m)
+
+log-at : (rs : List Record) (c : Condition) (k : ℕ) (z : Record) (d : ℕ) → length rs ≡ 5 → k < 16
+    → getD (logWords rs) (logPlace c + k) d ≡ getD (namedWords (getD rs (placeOf c) z) ++ replicate 8 0) k d
+unfolding logWords
+log-at rs c k z d five m =
+    let below = place-below c in
+    let inside : 16 * placeOf c + k < length (descriptors rs) = rw descriptors-length (omega arith) in
+    rw (place-words c)
+    (List·getD-append (descriptors rs) _ d (16 * placeOf c + k) inside ∙ descriptor-at rs (placeOf c) k z d (omega arith) m)
+
+-- The k-th of a condition's named words stands k words after the condition's place.
+pub named-word : (rs : List Record) (c : Condition) (k : ℕ) (z : Record) (d : ℕ) → length rs ≡ 5 → k < 8
+    → getD (logWords rs) (logPlace c + k) d ≡ getD (namedWords (getD rs (placeOf c) z)) k d
+named-word rs c k z d five h =
+    log-at rs c k z d five (omega arith) ∙ List·getD-append (namedWords (getD rs (placeOf c) z)) (replicate 8 0) d k h
+
+-- The other eight words of a condition are zero.
+pub unnamed-word : (rs : List Record) (c : Condition) (k : ℕ) (d : ℕ) → length rs ≡ 5 → 8 ≤ k → k < 16
+    → getD (logWords rs) (logPlace c + k) d ≡ 0
+unnamed-word [] c k d five h m = omega arith
+unnamed-word (r ∷ rs) c k d five h m =
+    let after : k ≡ 8 + (k - 8) = omega arith in
+    log-at (r ∷ rs) c k r d five m
+    ∙ ap (λ (n : ℕ). getD (namedWords (getD (r ∷ rs) (placeOf c) r) ++ replicate 8 0) n d) after
+    ∙ getD-append-add (namedWords (getD (r ∷ rs) (placeOf c) r)) (replicate 8 0) (k - 8) d
+    ∙ getD-replicate 8 (k - 8) 0 d (omega arith)
+
+-- And so is every word after the five conditions.
+pub word-past : (rs : List Record) (j : ℕ) (d : ℕ) → length rs ≡ 5 → 80 ≤ j → j < 256 → getD (logWords rs) j d ≡ 0
+unfolding logWords
+word-past rs j d five h m =
+    let size = descriptors-length rs in
+    let after : j ≡ length (descriptors rs) + (j - 80) = omega arith in
+    rw after (getD-append-add (descriptors rs) _ (j - 80) d ∙ getD-replicate (256 - length (descriptors rs)) (j - 80) 0 d (omega arith))

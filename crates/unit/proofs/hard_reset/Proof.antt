@@ -1,0 +1,22 @@
+-- The verdict and the effect are the definition's.
+use Rattle.unit.specs.Calls.{resetOutcome}
+use borrow.Author.Needs.{needs}
+use Rattle.unit.proofs.hard_reset.Statement.{statement}
+use Rattle.unit.proofs.hard_reset.Tie as tie
+
+hard-reset-effect-requires : tie.Need-hard-reset-effect-requires
+hard-reset-effect-requires c κs = search needs
+
+record-verdict-requires : tie.Need-record-verdict-requires
+record-verdict-requires c κs = search needs
+
+settle-requires : tie.Need-settle-requires
+settle-requires c κs = search needs
+
+returns : tie.Need-returns
+unfolding resetOutcome
+returns c = rw (c .settle .ensures, c .before .record-verdict .ensures, c .before .before .hard-reset-effect .ensures)
+
+pub hard-reset-spec : {M : Type 1} → statement M
+hard-reset-spec =
+    tie.close (tie.spec hard-reset-effect-requires record-verdict-requires settle-requires returns)

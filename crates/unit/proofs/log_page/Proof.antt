@@ -1,0 +1,68 @@
+-- A clear verdict says that the buffer has 512 bytes, and the copy fills it; a refusal touches nothing.
+use mathlib.Core.Path.{_≡_, sym, _∙_}
+use Prim.Native.Nat.{ℕ}
+use native.Mathlib.Omega.{arith}
+use lib.ListN.{length}
+use denote.Ref.{now}
+use Rattle.unit.proofs.Verdicts.{clear-length}
+use Rattle.rows.proofs.Copied.{copied-whole}
+use Rattle.unit.specs.Calls.{logOutcome}
+use borrow.Author.Needs.{needs}
+use Rattle.unit.proofs.log_page.Statement.{statement}
+use Rattle.unit.proofs.log_page.Tie as tie
+
+log-verdict-requires : tie.Need-log-verdict-requires
+log-verdict-requires c κs = search needs
+
+enum-told : tie.Need-enum-told
+enum-told c = search needs
+
+log-page-requires : tie.Need-log-page-requires
+log-page-requires c κs = search needs
+
+slice-aggregate-copy-in : tie.Need-slice-aggregate-copy-in
+slice-aggregate-copy-in c = search needs
+
+copy-in-requires : tie.Need-copy-in-requires
+copy-in-requires c κs =
+    let v = c .before .before .before .before .before .before in
+    let full : length (now (v .before .before .args .buffer)) ≡ 512 = clear-length _ _ _ _ (sym (v .log-verdict .ensures) ∙ c .before .before .before .before .enum-told .given .1) in
+    omega arith
+
+enum-known-v : tie.Need-enum-known-v
+enum-known-v c = search needs
+
+same-length : tie.Need-same-length
+same-length c = search needs
+
+returns : tie.Need-returns
+unfolding logOutcome
+returns c =
+    let v = c .before .before .before .before .before .before .before .before .before in
+    let start = v .before .before .args in
+    let clear = sym (v .log-verdict .ensures) ∙ c .before .before .before .before .before .before .before .enum-told .given .1 in
+    let full : length (now (start .buffer)) ≡ 512 = clear-length _ _ _ _ clear in (
+      rw clear,
+      rw (clear, c .before .before .copy-in .ensures, copied-whole (now (start .buffer)) (c .before .before .before .before .before .log-page .result) (omega arith)) (c .before .before .before .before .before .log-page .ensures),
+    )
+
+returns-2 : tie.Need-returns-2
+unfolding logOutcome
+returns-2 c =
+    let v = c .before .before .before in
+    let given = sym (v .log-verdict .ensures) ∙ c .before .v .given .1 in
+    (rw given, rw given)
+
+pub log-page-spec : {M : Type 1} → statement M
+log-page-spec =
+    tie.close
+    (tie.spec
+    log-verdict-requires
+    enum-told
+    log-page-requires
+    slice-aggregate-copy-in
+    copy-in-requires
+    enum-known-v
+    same-length
+    returns
+    returns-2)

@@ -1,0 +1,22 @@
+-- The length's row, then the record's.
+use mathlib.Core.List.{[], _∷_}
+use Rattle.unit.proofs.Verdicts.{lowest-append}
+use borrow.Author.Needs.{needs}
+use Rattle.unit.proofs.log_verdict.Statement.{statement}
+use Rattle.unit.proofs.log_verdict.Tie as tie
+
+given-if-requires : tie.Need-given-if-requires
+given-if-requires c κs = search needs
+
+record-verdict-requires : tie.Need-record-verdict-requires
+record-verdict-requires c κs = search needs
+
+or-else-requires : tie.Need-or-else-requires
+or-else-requires c κs = search needs
+
+returns : tie.Need-returns
+returns c = rw (c .or-else .ensures, c .before .record-verdict .ensures, c .before .before .given-if .ensures) (lowest-append _ _)
+
+pub log-verdict-spec : {M : Type 1} → statement M
+log-verdict-spec =
+    tie.close (tie.spec given-if-requires record-verdict-requires or-else-requires returns)

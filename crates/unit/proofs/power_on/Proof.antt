@@ -1,0 +1,22 @@
+-- The verdict and the effect are the definition's.
+use Rattle.unit.specs.Calls.{powerOnOutcome}
+use borrow.Author.Needs.{needs}
+use Rattle.unit.proofs.power_on.Statement.{statement}
+use Rattle.unit.proofs.power_on.Tie as tie
+
+power-on-effect-requires : tie.Need-power-on-effect-requires
+power-on-effect-requires c κs = search needs
+
+record-verdict-requires : tie.Need-record-verdict-requires
+record-verdict-requires c κs = search needs
+
+settle-requires : tie.Need-settle-requires
+settle-requires c κs = search needs
+
+returns : tie.Need-returns
+unfolding powerOnOutcome
+returns c = rw (c .settle .ensures, c .before .record-verdict .ensures, c .before .before .power-on-effect .ensures)
+
+pub power-on-spec : {M : Type 1} → statement M
+power-on-spec =
+    tie.close (tie.spec power-on-effect-requires record-verdict-requires settle-requires returns)

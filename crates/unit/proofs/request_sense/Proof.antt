@@ -1,0 +1,80 @@
+-- A clear verdict says that the buffer has 18 bytes, and the copy fills it; a refusal touches nothing.
+use mathlib.Core.Path.{_≡_, sym, _∙_}
+use Prim.Native.Nat.{ℕ}
+use native.Mathlib.Omega.{arith}
+use lib.ListN.{length}
+use denote.Ref.{now}
+use Rattle.unit.proofs.Verdicts.{clear-length}
+use Rattle.rows.proofs.Copied.{copied-whole}
+use Rattle.unit.specs.Calls.{senseOutcome}
+use borrow.Author.Needs.{needs}
+use Rattle.unit.proofs.request_sense.Statement.{statement}
+use Rattle.unit.proofs.request_sense.Tie as tie
+
+sense-verdict-requires : tie.Need-sense-verdict-requires
+sense-verdict-requires c κs = search needs
+
+enum-told : tie.Need-enum-told
+enum-told c = search needs
+
+told-requires : tie.Need-told-requires
+told-requires c κs = search needs
+
+slice-aggregate-copy-in : tie.Need-slice-aggregate-copy-in
+slice-aggregate-copy-in c = search needs
+
+copy-in-requires : tie.Need-copy-in-requires
+copy-in-requires c κs =
+    let v = c .before .before .before .before .before in
+    let full : length (now (v .before .before .args .buffer)) ≡ 18 = clear-length _ _ _ _ (sym (v .sense-verdict .ensures) ∙ c .before .before .before .enum-told .given .1) in
+    omega arith
+
+sense-effect-requires : tie.Need-sense-effect-requires
+sense-effect-requires c κs = search needs
+
+settle-requires : tie.Need-settle-requires
+settle-requires c κs = search needs
+
+enum-known-v : tie.Need-enum-known-v
+enum-known-v c = search needs
+
+settle-requires-2 : tie.Need-settle-requires-2
+settle-requires-2 c κs = search needs
+
+same-length : tie.Need-same-length
+same-length c = search needs
+
+returns : tie.Need-returns
+unfolding senseOutcome
+returns c =
+    let v = c .before .before .before .before .before .before .before .before .before .before in
+    let start = v .before .before .args in
+    let clear = sym (v .sense-verdict .ensures) ∙ c .before .before .before .before .before .before .before .before .enum-told .given .1 in
+    let full : length (now (start .buffer)) ≡ 18 = clear-length _ _ _ _ clear in (
+      rw (clear, c .settle .ensures, c .before .sense-effect .ensures),
+      rw (clear, c .before .before .before .before .copy-in .ensures, copied-whole (now (start .buffer)) (c .before .before .before .before .before .before .before .told .result) (omega (arith, c .before .before .before .before .before .before .before .told .ok))) (c .before .before .before .before .before .before .before .told .ensures),
+    )
+
+returns-2 : tie.Need-returns-2
+unfolding senseOutcome
+returns-2 c =
+    let v = c .before .before .before .before in
+    let given = sym (v .sense-verdict .ensures) ∙ c .before .before .v .given .1 in
+    (rw (given, c .settle2 .ensures), rw given)
+
+pub request-sense-spec : {M : Type 1} → statement M
+request-sense-spec =
+    tie.close
+    (tie.spec
+    sense-verdict-requires
+    enum-told
+    told-requires
+    slice-aggregate-copy-in
+    copy-in-requires
+    sense-effect-requires
+    settle-requires
+    enum-known-v
+    settle-requires-2
+    same-length
+    returns
+    returns-2)
