@@ -6,8 +6,8 @@ use lib.Dec.{eqb}
 use Rattle.unit.specs.Units.{rested}
 use Rattle.unit.specs.declared.Refusal.{Refusal}
 use Rattle.unit.specs.declared.Refusal.the-variants.{BadLength, BadHost, BadRecord, CommandOut, NothingDue, OwnWaiting, BadOpcode, BadField, IsStopped, Aborted}
-use Rattle.unit.specs.declared.RefusalSense.{RefusalSense}
-use Rattle.unit.specs.declared.RefusalSense.the-variants.{NoSense, WithSense}
+use Rattle.unit.specs.declared.SenseDue.{SenseDue}
+use Rattle.unit.specs.declared.SenseDue.the-variants.{NoSense, WithSense}
 use Rattle.unit.specs.declared.Verdict.{Verdict}
 use Rattle.unit.specs.declared.Verdict.the-variants.{Clear, Given}
 use Rattle.unit.specs.declared.Answer.{Answer}
@@ -29,7 +29,7 @@ numberOf IsStopped = 9
 numberOf Aborted = 10
 
 -- "Sense": "none", or sense key, additional sense code and qualifier.
-abbrev pub senseOf : Refusal → RefusalSense
+abbrev pub senseOf : Refusal → SenseDue
 senseOf BadLength = NoSense
 senseOf BadHost = NoSense
 senseOf BadRecord = NoSense

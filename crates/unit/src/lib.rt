@@ -9,7 +9,7 @@ ghost use mathlib.Core.List.{[], _∷_};
 ghost use mathlib.Core.Bool.{not};
 ghost use lib.Dec.{eqb};
 ghost use Rattle.unit.specs.declared.Refusal.the-variants.{BadLength};
-ghost use Rattle.unit.specs.declared.RefusalSense.the-variants.{WithSense};
+ghost use Rattle.unit.specs.declared.SenseDue.the-variants.{WithSense};
 use drive::Condition;
 use drive::Drive;
 use drive::Made;
@@ -94,8 +94,8 @@ pub enum Refusal {
     Aborted,
 }
 
-// The sense that goes with a refusal.
-pub enum RefusalSense {
+// The sense that goes with an answer.
+pub enum SenseDue {
     NoSense,
     WithSense(Sense),
 }
@@ -133,26 +133,26 @@ pub fn number(r: Refusal) -> u32
     }
 }
 
-fn with_sense(key: u8, asc: u8, ascq: u8) -> RefusalSense
+fn with_sense(key: u8, asc: u8, ascq: u8) -> SenseDue
     ensures { λ s. ⌜ s ≡ WithSense (record { key = key; asc = asc; ascq = ascq }) ⌝ }
 {
-    RefusalSense::WithSense(Sense { key, asc, ascq })
+    SenseDue::WithSense(Sense { key, asc, ascq })
 }
 
-pub fn sense_of(r: Refusal) -> RefusalSense
+pub fn sense_of(r: Refusal) -> SenseDue
     ensures { λ s. ⌜ s ≡ senseOf r ⌝ }
 {
     match r {
-        Refusal::BadLength => RefusalSense::NoSense,
-        Refusal::BadHost => RefusalSense::NoSense,
-        Refusal::BadRecord => RefusalSense::NoSense,
-        Refusal::CommandOut => RefusalSense::NoSense,
-        Refusal::NothingDue => RefusalSense::NoSense,
+        Refusal::BadLength => SenseDue::NoSense,
+        Refusal::BadHost => SenseDue::NoSense,
+        Refusal::BadRecord => SenseDue::NoSense,
+        Refusal::CommandOut => SenseDue::NoSense,
+        Refusal::NothingDue => SenseDue::NoSense,
         Refusal::OwnWaiting => with_sense(0x02, 0x04, 0x07),
         Refusal::BadOpcode => with_sense(0x05, 0x20, 0x00),
         Refusal::BadField => with_sense(0x05, 0x24, 0x00),
         Refusal::IsStopped => with_sense(0x02, 0x04, 0x02),
-        Refusal::Aborted => RefusalSense::NoSense,
+        Refusal::Aborted => SenseDue::NoSense,
     }
 }
 

@@ -1,0 +1,45 @@
+-- By the verdict.
+use mathlib.Core.Path.{sym, _∙_}
+use Rattle.bridge.specs.Bridge.{answerOutcome}
+use borrow.Author.Needs.{needs}
+use Rattle.bridge.proofs.answer.Statement.{statement}
+use Rattle.bridge.proofs.answer.Tie as tie
+
+answer-verdict-requires : tie.Need-answer-verdict-requires
+answer-verdict-requires c κs = search needs
+
+enum-told : tie.Need-enum-told
+enum-told c = search needs
+
+slot-of-requires : tie.Need-slot-of-requires
+slot-of-requires c κs = search needs
+
+answer-on-requires : tie.Need-answer-on-requires
+answer-on-requires c κs = search needs
+
+enum-known-v : tie.Need-enum-known-v
+enum-known-v c = search needs
+
+after-refusal-requires : tie.Need-after-refusal-requires
+after-refusal-requires c κs = search needs
+
+returns : tie.Need-returns
+unfolding answerOutcome
+returns c = let clear = sym (c .before .before .before .before .before .answer-verdict .ensures) ∙ c .before .before .before .enum-told .given .1 in rw (clear, c .answer-on .ensures, c .before .slot-of .ensures)
+
+returns-2 : tie.Need-returns-2
+unfolding answerOutcome
+returns-2 c = let given = sym (c .before .before .before .before .answer-verdict .ensures) ∙ c .before .before .v .given .1 in rw (given, c .after-refusal .ensures)
+
+pub answer-spec : {M : Type 1} → statement M
+answer-spec =
+    tie.close
+    (tie.spec
+    answer-verdict-requires
+    enum-told
+    slot-of-requires
+    answer-on-requires
+    enum-known-v
+    after-refusal-requires
+    returns
+    returns-2)

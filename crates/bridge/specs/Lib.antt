@@ -1,0 +1,3 @@
+pub mod Cdb
+pub mod Operations
+pub mod Bridge
