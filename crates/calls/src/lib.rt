@@ -1,0 +1,1 @@
+// Definitions and theorems over all calls; this crate has no code of its own.
