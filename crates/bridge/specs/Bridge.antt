@@ -11,7 +11,7 @@ use Rattle.unit.specs.Calls.{notWellFormed, hostRows}
 use Rattle.unit.specs.declared.Slot.{Slot}
 use Rattle.unit.specs.declared.Slot.the-variants.{Empty, Waiting}
 use Rattle.unit.specs.declared.Out.the-variants.{OutFor}
-use Rattle.unit.specs.declared.Refusal.the-variants.{BadLength, BadHost, NothingDue, OwnWaiting, BadOpcode, BadField}
+use Rattle.unit.specs.declared.Refusal.the-variants.{BadLength, BadHost, HasNone, OwnWaiting, BadOpcode, BadField}
 use Rattle.unit.specs.declared.Verdict.{Verdict}
 use Rattle.unit.specs.declared.Verdict.the-variants.{Clear, Given}
 use Rattle.unit.specs.declared.Unit.{Unit}
@@ -50,29 +50,30 @@ startStopEffect host cdb (Wants t) u = withSlot host (Waiting (requestFor t cdb)
 abbrev pub acceptedAs : Bool → Acceptance
 acceptedAs immediate = cond immediate GoodDue Pending
 
-abbrev pub startStopSettled : Unit → ℕ → List ℕ → Verdict → StartStopped
-startStopSettled u host cdb Clear = record { answer = acceptedAs (immed cdb); unit = startStopEffect host cdb (wanted cdb) u }
-startStopSettled u host cdb (Given r) = record { answer = NotAccepted r; unit = afterRefusal r u }
+abbrev pub startStopSettled : Unit → ℕ → List ℕ → Wanted → Verdict → StartStopped
+startStopSettled u host cdb w Clear = record { answer = acceptedAs (immed cdb); unit = startStopEffect host cdb w u }
+startStopSettled u host cdb w (Given r) = record { answer = NotAccepted r; unit = afterRefusal r u }
 
 unfoldable pub startStopOutcome : Unit → ℕ → List ℕ → StartStopped
-startStopOutcome u host cdb = startStopSettled u host cdb (lowest (startStopRows u host cdb))
+startStopOutcome u host cdb = startStopSettled u host cdb (wanted cdb) (lowest (startStopRows u host cdb))
 
 -- ---- the next command
 
 -- 5: "next asked by a host with none waiting".
 abbrev pub nextRows : Unit → ℕ → List Row
-nextRows u host = hostRows u host ++ (not (waits u host) gives NothingDue) ∷ []
+nextRows u host = hostRows u host ++ (not (waits u host) gives HasNone) ∷ []
 
 -- "A host asks for its operation's next command; that command is then out until the answer, good or bad, is given."
 abbrev pub nextEffect : ℕ → Unit → Unit
 nextEffect host u = withOut (OutFor host) (rested u)
 
-abbrev pub sent : Bool → Slot → Next
-sent unsaved Empty = NotSent NothingDue
-sent unsaved (Waiting q) = Send (registersOf (dueFrom unsaved q))
+-- Row 5 has answered a host with none waiting.
+abbrev pub nextOn : Unit → ℕ → Slot → Asked
+nextOn u host Empty = record { answer = NotSent HasNone; unit = u }
+nextOn u host (Waiting q) = record { answer = Send (registersOf (dueFrom (u .unsaved) q)); unit = nextEffect host u }
 
 abbrev pub nextSettled : Unit → ℕ → Verdict → Asked
-nextSettled u host Clear = record { answer = sent (u .unsaved) (slotOf (u .slots) host); unit = nextEffect host u }
+nextSettled u host Clear = nextOn u host (slotOf (u .slots) host)
 nextSettled u host (Given r) = record { answer = NotSent r; unit = afterRefusal r u }
 
 unfoldable pub nextOutcome : Unit → ℕ → Asked
@@ -82,11 +83,11 @@ nextOutcome u host = nextSettled u host (lowest (nextRows u host))
 
 -- 5: "answer for a host that has none out". Number 4 is not for the answer.
 abbrev pub answerRows : Unit → ℕ → List Row
-answerRows u host = (ltb 3 host gives BadHost) ∷ notWellFormed u ∷ (not (isOutFor host (u .out)) gives NothingDue) ∷ []
+answerRows u host = (ltb 3 host gives BadHost) ∷ notWellFormed u ∷ (not (isOutFor host (u .out)) gives HasNone) ∷ []
 
 -- A well-formed record with the host's command out has its operation in the slot.
 abbrev pub answerOn : Unit → ℕ → Reply → Slot → Replied
-answerOn u host reply Empty = record { answer = NotTaken NothingDue; unit = u }
+answerOn u host reply Empty = record { answer = NotTaken HasNone; unit = u }
 answerOn u host reply (Waiting q) = answeredFor u host q reply
 
 abbrev pub answerSettled : Unit → ℕ → Reply → Verdict → Replied

@@ -16,7 +16,7 @@ use Rattle.unit.specs.declared.Request.{Request}
 use Rattle.bridge.specs.declared.Wanted.{Wanted}
 use Rattle.bridge.specs.declared.Wanted.the-variants.{Wants, Unlisted}
 
--- "CDB of 6 bytes (003): byte 0 is 1Bh;"
+-- "CDB of 6 bytes (003)". A byte that is not there reads as 0; number 1 is given before one is looked at.
 abbrev pub byte : ℕ → List ℕ → ℕ
 byte k cdb = getD cdb k 0
 
@@ -50,7 +50,7 @@ reservedOne cdb =
 
 -- "0h, modifier 0, LOEJ 0, START 0: stop." "0h, modifier 0, LOEJ 0, START 1: start."
 abbrev pub stopOrStart : ℕ → Bool → Bool → Wanted
-stopOrStart m ejects starts = cond (eqb m 0 && not ejects) (Wants (cond starts Start Stop)) Unlisted
+stopOrStart m ejects starts = cond (eqb m 0) (cond ejects Unlisted (Wants (cond starts Start Stop))) Unlisted
 
 -- "1h, modifier 0: as start (H)."
 abbrev pub asStart : ℕ → Wanted

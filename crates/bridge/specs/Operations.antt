@@ -6,7 +6,7 @@ use lib.Dec.{eqb, ltb}
 use lib.ListN.{getD}
 use Rattle.drive.specs.Conditions.{placeOf}
 use Rattle.drive.specs.Records.{unsupported}
-use Rattle.drive.specs.Drives.{entered, used}
+use Rattle.drive.specs.Drives.{entered}
 use Rattle.drive.specs.declared.Condition.{Condition}
 use Rattle.drive.specs.declared.Condition.the-variants.{StandbyY, StandbyZ}
 use Rattle.drive.specs.declared.Cause.the-variants.{Command}
@@ -15,7 +15,7 @@ use Rattle.drive.specs.declared.Power.the-variants.{Active, Low}
 use Rattle.drive.specs.declared.Record.{Record}
 use Rattle.epc.specs.Epc.{countCode}
 use Rattle.epc.specs.declared.Registers.{Registers}
-use Rattle.unit.specs.Units.{withDrive, withMarks, withSlot, withHeld, withOut}
+use Rattle.unit.specs.Units.{rested, withDrive, withMarks, withSlot, withHeld, withOut}
 use Rattle.unit.specs.Calls.{failureSense}
 use Rattle.unit.specs.declared.Target.{Target}
 use Rattle.unit.specs.declared.Target.the-variants.{Stop, Start, GoTo}
@@ -40,11 +40,10 @@ use Rattle.bridge.specs.declared.Replied.{Replied}
 
 -- ---- the commands
 
--- "Registers not given are zero."
 abbrev pub registers : ℕ → ℕ → ℕ → ℕ → Registers
 registers command feature count lba = record { command = command; feature = feature; count = count; lba = lba }
 
--- "Flush is E7h." "STANDBY IMMEDIATE E0h." "READ VERIFY 40h, Count 1, LBA 0." The go to is EPC's: EFh, 4Ah, the condition's Count, LBA 1.
+-- "Registers not given are zero." "Flush is E7h." "STANDBY IMMEDIATE E0h." "READ VERIFY 40h, Count 1, LBA 0." The go to is EPC's: EFh, 4Ah, the condition's Count, LBA 1.
 abbrev pub registersOf : Due → Registers
 registersOf Flush = registers 0xE7 0 0 0
 registersOf StandbyImmediate = registers 0xE0 0 0 0
@@ -86,7 +85,7 @@ flushesOf (Flushing answered) = answered
 -- ---- the end report
 
 -- "With IMMED 1, GOOD is due on acceptance; a failure is held as the host's deferred sense .. With IMMED 0 the status comes with the last
--- answer." "The end report also carries the number of flushes answered".
+-- answer." "The end report also carries the number of flushes answered". A sense beside no status is one that is now held.
 abbrev pub reportGood : Bool → ℕ → Report
 reportGood immed flushes = record { status = cond immed NoStatus GoodStatus; sense = NoSense; flushes = flushes }
 
@@ -96,9 +95,13 @@ reportFailed immed f flushes =
 
 -- ---- answers
 
--- "Every answer sets idle count 0." The command is no longer out; the unit is Active unless the last command says otherwise.
+-- "Every answer sets idle count 0." The command is no longer out.
 abbrev pub taken : Unit → Unit
-taken u = withOut NoneOut (withDrive (used (u .drive)) u)
+taken u = withOut NoneOut (rested u)
+
+-- The condition that the answer leaves, entered once.
+abbrev pub entering : Power → Unit → Unit
+entering p u = withDrive (entered p (u .drive)) u
 
 -- "Good flush: Active, unsaved cleared." It is counted.
 abbrev pub flushCounted : Request → Request
@@ -106,17 +109,17 @@ flushCounted q = record { target = q .target; immed = q .immed; stage = Flushing
 
 abbrev pub flushedWell : Unit → ℕ → Request → Replied
 flushedWell u host q =
-    record { answer = More; unit = withSlot host (Waiting (flushCounted q)) (withMarks (u .stopped) false (taken u)) }
+    record { answer = More; unit = withSlot host (Waiting (flushCounted q)) (withMarks (u .stopped) false (entering Active (taken u))) }
 
 -- "a failure is held as the host's deferred sense, replacing an older one", with IMMED 1.
 abbrev pub heldIf : Bool → ℕ → Failure → Unit → Unit
 heldIf immed host f u = cond immed (withHeld host (Holds f) u) u
 
 -- "Bad flush: Active, operation over, failed, marks as before." "Bad last command: Active, failed, marks as before."
-abbrev pub failed : Unit → ℕ → Request → ℕ → Replied
-failed u host q flushes = record {
-  answer = Ended (reportFailed (q .immed) CommandSequence flushes);
-  unit = heldIf (q .immed) host CommandSequence (withSlot host Empty (taken u));
+abbrev pub failed : Unit → ℕ → Request → Failure → ℕ → Replied
+failed u host q f flushes = record {
+  answer = Ended (reportFailed (q .immed) f flushes);
+  unit = heldIf (q .immed) host f (withSlot host Empty (entering Active (taken u)));
 }
 
 -- "stop enters Standby_y if its current flag is set, else Standby_z, supported or not".
@@ -134,9 +137,6 @@ abbrev pub isStop : Target → Bool
 isStop Stop = true
 isStop Start = false
 isStop (GoTo c) = false
-
-abbrev pub entering : Power → Unit → Unit
-entering p u = withDrive (entered p (u .drive)) u
 
 abbrev pub succeeded : Unit → ℕ → Request → Replied
 succeeded u host q = record {
@@ -156,12 +156,12 @@ countsAsGood (GoTo c) reply = isGood reply
 
 -- The answer to a flush: "A bad flush is its operation's last answer", and is counted.
 abbrev pub flushAnswered : Unit → ℕ → Request → Reply → Replied
-flushAnswered u host q reply = cond (isGood reply) (flushedWell u host q) (failed u host q (oneMore (flushesOf (q .stage))))
+flushAnswered u host q reply = cond (isGood reply) (flushedWell u host q) (failed u host q CommandSequence (oneMore (flushesOf (q .stage))))
 
 -- The answer to the last command.
 abbrev pub lastAnswered : Unit → ℕ → Request → Reply → Replied
 lastAnswered u host q reply =
-    cond (countsAsGood (q .target) reply) (succeeded u host q) (failed u host q (flushesOf (q .stage)))
+    cond (countsAsGood (q .target) reply) (succeeded u host q) (failed u host q CommandSequence (flushesOf (q .stage)))
 
 -- The answer to the command that is out for a waiting operation.
 unfoldable pub answeredFor : Unit → ℕ → Request → Reply → Replied

@@ -1,19 +1,21 @@
 // START STOP UNIT for four hosts over one ATA drive (T10 07-485r3, 05-226r3): the CDB, acceptance, the command due, the answer, the end report.
 ghost use mathlib.Core.Path.{_≡_};
-ghost use mathlib.Core.Bool.{cond, not};
+ghost use mathlib.Core.Bool.{cond, not, _&&_};
 ghost use mathlib.Core.List.{[], _∷_};
-ghost use lib.Dec.{eqb};
+ghost use lib.Dec.{eqb, ltb};
 ghost use lib.ListN.{length};
-ghost use Rattle.unit.specs.Refusals.{_gives_, lowest};
-ghost use Rattle.unit.specs.declared.Refusal.the-variants.{BadOpcode, BadField};
+ghost use Rattle.unit.specs.Refusals.{_gives_, lowest, orElse};
+ghost use Rattle.unit.specs.declared.Refusal.the-variants.{BadLength, BadHost, BadRecord, CommandOut, HasNone, OwnWaiting, BadOpcode, BadField};
 ghost use Rattle.bridge.specs.Cdb;
 ghost use Rattle.unit.specs.declared.Stage.the-variants.{Straight, Flushing};
-ghost use Rattle.bridge.specs.Cdb.{byte, reservedOne, stopOrStart, asStart, idles, standbys, decided, wanted, isListed, stageFor, requestFor};
+ghost use Rattle.unit.specs.declared.Target.the-variants.{Stop, Start};
+ghost use Rattle.bridge.specs.declared.Wanted.the-variants.{Wants, Unlisted};
+ghost use Rattle.bridge.specs.Cdb.{byte, reservedOne, stopOrStart, asStart, idles, standbys, decided, wanted, stageFor, requestFor};
 ghost use Rattle.bridge.specs.Operations;
-ghost use Rattle.unit.specs.Units.{isOutFor};
+ghost use Rattle.unit.specs.Units.{isOut, isOutFor};
 ghost use Rattle.bridge.specs.declared.Status.the-variants.{NoStatus};
 ghost use Rattle.bridge.specs.Operations.{registersOf, lastOf, dueAt, dueFrom, isFlush, oneMore, flushesOf, reportGood, reportFailed, taken, flushedWell, heldIf, failed, parkedIn, reached, isStop, succeeded, isGood, countsAsGood, flushAnswered, lastAnswered, answeredFor};
-ghost use Rattle.bridge.specs.Bridge.{startStopRows, startStopEffect, acceptedAs, startStopOutcome, nextRows, nextEffect, sent, nextOutcome, answerRows, answerOn, answerOutcome};
+ghost use Rattle.bridge.specs.Bridge.{startStopEffect, acceptedAs, startStopSettled, startStopOutcome, nextEffect, nextOn, nextOutcome, answerOn, answerOutcome};
 use drive::Cause;
 use drive::Condition;
 use drive::Power;
@@ -104,14 +106,22 @@ pub struct Replied {
 fn stop_or_start(modifier: u8, ejects: bool, starts: bool) -> Wanted
     ensures { λ w. ⌜ w ≡ stopOrStart modifier ejects starts ⌝ }
 {
-    if (modifier == 0) & !ejects {
-        if starts {
-            Wanted::Wants(Target::Start)
-        } else {
-            Wanted::Wants(Target::Stop)
-        }
+    match modifier {
+        0 => stop_start_bits(ejects, starts),
+        1..=0xFF => Wanted::Unlisted,
+    }
+}
+
+fn stop_start_bits(ejects: bool, starts: bool) -> Wanted
+    ensures { λ w. ⌜ w ≡ cond ejects Unlisted (Wants (cond starts Start Stop)) ⌝ }
+{
+    if ejects {
+        return Wanted::Unlisted;
+    }
+    if starts {
+        Wanted::Wants(Target::Start)
     } else {
-        Wanted::Unlisted
+        Wanted::Wants(Target::Stop)
     }
 }
 
@@ -203,10 +213,10 @@ fn fits(records: [Record; 5], w: Wanted) -> bool
     }
 }
 
-fn is_listed(records: [Record; 5], cdb: &[u8]) -> bool
-    ensures { λ b. ⌜ b ≡ isListed records (now (cdb .entry)) ⌝ }
+fn is_listed(records: [Record; 5], cdb: &[u8], w: Wanted) -> bool
+    ensures { λ b. ⌜ b ≡ not (reservedOne (now (cdb .entry))) && Cdb.fits records w ⌝ }
 {
-    !reserved_one(cdb) & fits(records, read_wanted(cdb))
+    !reserved_one(cdb) & fits(records, w)
 }
 
 // With NO_FLUSH the flush is left out; a start never sends one.
@@ -241,35 +251,33 @@ fn request_for(t: Target, cdb: &[u8]) -> Request
     }
 }
 
-// Numbers 7 and 8.
-fn cdb_verdict(records: [Record; 5], cdb: &[u8]) -> Verdict
-    ensures { λ v. ⌜ v ≡ lowest ((not (eqb (byte 0 (now (cdb .entry))) 0x1B) gives BadOpcode) ∷ (not (isListed records (now (cdb .entry))) gives BadField) ∷ []) ⌝ }
+// Numbers 6, 7 and 8.
+fn cdb_verdict(own: bool, opcode: u8, listed: bool) -> Verdict
+    ensures { λ v. ⌜ v ≡ lowest ((own gives OwnWaiting) ∷ (not (eqb opcode 0x1B) gives BadOpcode) ∷ (not listed gives BadField) ∷ []) ⌝ }
 {
     unit::or_else(
-        unit::given_if(byte_at(cdb, 0) != 0x1B, Refusal::BadOpcode),
-        unit::given_if(!is_listed(records, cdb), Refusal::BadField),
+        unit::given_if(own, Refusal::OwnWaiting),
+        unit::or_else(
+            unit::given_if(opcode != 0x1B, Refusal::BadOpcode),
+            unit::given_if(!listed, Refusal::BadField),
+        ),
     )
 }
 
-// Numbers 1, 2, 3, 4, 6, 7 and 8.
-fn start_stop_verdict(u: Unit, host: u32, cdb: &[u8]) -> Verdict
-    ensures { λ v. ⌜ v ≡ lowest (startStopRows u host (now (cdb .entry))) ⌝ }
+// Numbers 1 to 4, then the CDB's.
+fn start_stop_verdict(length: usize, host: u32, ok: bool, out: Out, cdb: Verdict) -> Verdict
+    ensures { λ v. ⌜ v ≡ orElse (lowest ((not (eqb length 6) gives BadLength) ∷ (ltb 3 host gives BadHost) ∷ (not ok gives BadRecord) ∷ (isOut out gives CommandOut) ∷ [])) cdb ⌝ }
 {
-    let records = u.drive.records;
-    let slots = u.slots;
-    let length = unit::given_if(cdb.len() != 6, Refusal::BadLength);
-    let own = unit::given_if(
-        unit::is_waiting(unit::slot_of(slots, host)),
-        Refusal::OwnWaiting,
+    let before = unit::or_else(
+        unit::given_if(length != 6, Refusal::BadLength),
+        unit::host_verdict(host, ok, out),
     );
-    let rest = unit::or_else(own, cdb_verdict(records, cdb));
-    unit::or_else(length, unit::or_else(unit::host_verdict(u, host), rest))
+    unit::or_else(before, cdb)
 }
 
-fn start_stop_effect(u: Unit, host: u32, cdb: &[u8]) -> Unit
-    ensures { λ v. ⌜ v ≡ startStopEffect host (now (cdb .entry)) (wanted (now (cdb .entry))) u ⌝ }
+fn start_stop_effect(u: Unit, host: u32, cdb: &[u8], w: Wanted) -> Unit
+    ensures { λ v. ⌜ v ≡ startStopEffect host (now (cdb .entry)) w u ⌝ }
 {
-    let w = read_wanted(cdb);
     match w {
         Wanted::Unlisted => u,
         Wanted::Wants(t) => unit::with_slot(
@@ -290,14 +298,12 @@ fn accepted_as(immediate: bool) -> Acceptance
     }
 }
 
-// START STOP UNIT.
-pub fn start_stop_unit(u: Unit, host: u32, cdb: &[u8]) -> StartStopped
-    ensures { λ s. ⌜ s ≡ startStopOutcome u host (now (cdb .entry)) ⌝ }
+fn accept(u: Unit, host: u32, cdb: &[u8], w: Wanted, v: Verdict) -> StartStopped
+    ensures { λ s. ⌜ s ≡ startStopSettled u host (now (cdb .entry)) w v ⌝ }
 {
-    let v = start_stop_verdict(u, host, cdb);
     match v {
         Verdict::Clear => {
-            let next = start_stop_effect(u, host, cdb);
+            let next = start_stop_effect(u, host, cdb, w);
             StartStopped {
                 answer: accepted_as(byte_at(cdb, 1) % 2 != 0),
                 unit: next,
@@ -311,6 +317,26 @@ pub fn start_stop_unit(u: Unit, host: u32, cdb: &[u8]) -> StartStopped
             }
         }
     }
+}
+
+// START STOP UNIT.
+pub fn start_stop_unit(u: Unit, host: u32, cdb: &[u8]) -> StartStopped
+    ensures { λ s. ⌜ s ≡ startStopOutcome u host (now (cdb .entry)) ⌝ }
+{
+    let ok = unit::unit_ok(u);
+    let out = u.out;
+    let slots = u.slots;
+    let records = u.drive.records;
+    let own = unit::is_waiting(unit::slot_of(slots, host));
+    let w = read_wanted(cdb);
+    let of_cdb = cdb_verdict(own, byte_at(cdb, 0), is_listed(records, cdb, w));
+    accept(
+        u,
+        host,
+        cdb,
+        w,
+        start_stop_verdict(cdb.len(), host, ok, out, of_cdb),
+    )
 }
 
 // The last command of an operation.
@@ -372,24 +398,13 @@ fn registers_of(d: Due) -> Registers
 }
 
 // Numbers 2, 3, 4 and 5.
-fn next_verdict(u: Unit, host: u32) -> Verdict
-    ensures { λ v. ⌜ v ≡ lowest (nextRows u host) ⌝ }
+fn next_verdict(host: u32, ok: bool, out: Out, waiting: bool) -> Verdict
+    ensures { λ v. ⌜ v ≡ lowest ((ltb 3 host gives BadHost) ∷ (not ok gives BadRecord) ∷ (isOut out gives CommandOut) ∷ (not waiting gives HasNone) ∷ []) ⌝ }
 {
-    let slots = u.slots;
-    let none = !unit::is_waiting(unit::slot_of(slots, host));
     unit::or_else(
-        unit::host_verdict(u, host),
-        unit::given_if(none, Refusal::NothingDue),
+        unit::host_verdict(host, ok, out),
+        unit::given_if(!waiting, Refusal::HasNone),
     )
-}
-
-fn send(unsaved: bool, s: Slot) -> Next
-    ensures { λ n. ⌜ n ≡ sent unsaved s ⌝ }
-{
-    match s {
-        Slot::Empty => Next::NotSent(Refusal::NothingDue),
-        Slot::Waiting(q) => Next::Send(registers_of(due_from(unsaved, q))),
-    }
 }
 
 fn next_effect(u: Unit, host: u32) -> Unit
@@ -398,20 +413,35 @@ fn next_effect(u: Unit, host: u32) -> Unit
     unit::with_out(unit::rest(u), Out::OutFor(host))
 }
 
+fn next_on(u: Unit, host: u32, s: Slot) -> Asked
+    ensures { λ a. ⌜ a ≡ nextOn u host s ⌝ }
+{
+    match s {
+        Slot::Empty => Asked {
+            answer: Next::NotSent(Refusal::HasNone),
+            unit: u,
+        },
+        Slot::Waiting(q) => {
+            let next = next_effect(u, host);
+            Asked {
+                answer: Next::Send(registers_of(due_from(u.unsaved, q))),
+                unit: next,
+            }
+        }
+    }
+}
+
 // A host asks for its operation's next command, which is then out until the answer.
 pub fn next_command(u: Unit, host: u32) -> Asked
     ensures { λ a. ⌜ a ≡ nextOutcome u host ⌝ }
 {
-    let v = next_verdict(u, host);
+    let ok = unit::unit_ok(u);
+    let out = u.out;
+    let slots = u.slots;
+    let s = unit::slot_of(slots, host);
+    let v = next_verdict(host, ok, out, unit::is_waiting(s));
     match v {
-        Verdict::Clear => {
-            let slots = u.slots;
-            let next = next_effect(u, host);
-            Asked {
-                answer: send(u.unsaved, unit::slot_of(slots, host)),
-                unit: next,
-            }
-        }
+        Verdict::Clear => next_on(u, host, s),
         Verdict::Given(r) => {
             let kept = unit::after_refusal(u, r);
             Asked {
@@ -476,12 +506,18 @@ fn report_failed(immed: bool, f: Failure, flushes: u8) -> Report
     }
 }
 
-// The command is no longer out; Active, idle count 0.
+// The command is no longer out; idle count 0.
 fn take(u: Unit) -> Unit
     ensures { λ v. ⌜ v ≡ taken u ⌝ }
 {
+    unit::with_out(unit::rest(u), Out::NoneOut)
+}
+
+fn entering(u: Unit, p: Power) -> Unit
+    ensures { λ v. ⌜ v ≡ Operations.entering p u ⌝ }
+{
     let d = u.drive;
-    unit::with_out(unit::with_drive(u, drive::use_medium(d)), Out::NoneOut)
+    unit::with_drive(u, drive::enter(d, p))
 }
 
 // A good flush: nothing is unsaved, and the operation goes on.
@@ -495,7 +531,7 @@ fn flushed_well(u: Unit, host: u32, q: Request) -> Replied
         immed: q.immed,
         stage: Stage::Flushing(one_more(flushes_of(stage))),
     };
-    let clean = unit::with_marks(take(u), u.stopped, false);
+    let clean = unit::with_marks(entering(take(u), Power::Active), u.stopped, false);
     let next = unit::with_slot(clean, host, Slot::Waiting(counted));
     Replied {
         answer: Progress::More,
@@ -515,13 +551,13 @@ fn held_if(u: Unit, immed: bool, host: u32, f: Failure) -> Unit
 }
 
 // The operation is over and failed: Active, marks as before.
-fn fail(u: Unit, host: u32, q: Request, flushes: u8) -> Replied
-    ensures { λ r. ⌜ r ≡ failed u host q flushes ⌝ }
+fn fail(u: Unit, host: u32, q: Request, f: Failure, flushes: u8) -> Replied
+    ensures { λ r. ⌜ r ≡ failed u host q f flushes ⌝ }
 {
-    let over = unit::with_slot(take(u), host, Slot::Empty);
-    let next = held_if(over, q.immed, host, Failure::CommandSequence);
+    let over = unit::with_slot(entering(take(u), Power::Active), host, Slot::Empty);
+    let next = held_if(over, q.immed, host, f);
     Replied {
-        answer: Progress::Ended(report_failed(q.immed, Failure::CommandSequence, flushes)),
+        answer: Progress::Ended(report_failed(q.immed, f, flushes)),
         unit: next,
     }
 }
@@ -556,13 +592,6 @@ fn is_stop(t: Target) -> bool
         Target::Start => false,
         Target::GoTo(_) => false,
     }
-}
-
-fn entering(u: Unit, p: Power) -> Unit
-    ensures { λ v. ⌜ v ≡ Operations.entering p u ⌝ }
-{
-    let d = u.drive;
-    unit::with_drive(u, drive::enter(d, p))
 }
 
 // The last command went well: the unit is where the operation was to take it.
@@ -608,7 +637,13 @@ fn flush_answered(u: Unit, host: u32, q: Request, reply: Reply) -> Replied
     if is_good(reply) {
         flushed_well(u, host, q)
     } else {
-        fail(u, host, q, one_more(flushes_of(stage)))
+        fail(
+            u,
+            host,
+            q,
+            Failure::CommandSequence,
+            one_more(flushes_of(stage)),
+        )
     }
 }
 
@@ -620,7 +655,7 @@ fn last_answered(u: Unit, host: u32, q: Request, reply: Reply) -> Replied
     if counts_as_good(target, reply) {
         succeed(u, host, q)
     } else {
-        fail(u, host, q, flushes_of(stage))
+        fail(u, host, q, Failure::CommandSequence, flushes_of(stage))
     }
 }
 
@@ -640,7 +675,7 @@ fn answer_on(u: Unit, host: u32, reply: Reply, s: Slot) -> Replied
 {
     match s {
         Slot::Empty => Replied {
-            answer: Progress::NotTaken(Refusal::NothingDue),
+            answer: Progress::NotTaken(Refusal::HasNone),
             unit: u,
         },
         Slot::Waiting(q) => answered_for(u, host, q, reply),
@@ -657,15 +692,14 @@ fn is_out_for(host: u32, out: Out) -> bool
 }
 
 // Numbers 2, 3 and 5.
-fn answer_verdict(u: Unit, host: u32) -> Verdict
-    ensures { λ v. ⌜ v ≡ lowest (answerRows u host) ⌝ }
+fn answer_verdict(host: u32, ok: bool, out: Out) -> Verdict
+    ensures { λ v. ⌜ v ≡ lowest ((ltb 3 host gives BadHost) ∷ (not ok gives BadRecord) ∷ (not (isOutFor host out) gives HasNone) ∷ []) ⌝ }
 {
-    let out = u.out;
     unit::or_else(
         unit::given_if(3 < host, Refusal::BadHost),
         unit::or_else(
-            unit::given_if(!unit::unit_ok(u), Refusal::BadRecord),
-            unit::given_if(!is_out_for(host, out), Refusal::NothingDue),
+            unit::given_if(!ok, Refusal::BadRecord),
+            unit::given_if(!is_out_for(host, out), Refusal::HasNone),
         ),
     )
 }
@@ -674,7 +708,9 @@ fn answer_verdict(u: Unit, host: u32) -> Verdict
 pub fn answer(u: Unit, host: u32, reply: Reply) -> Replied
     ensures { λ r. ⌜ r ≡ answerOutcome u host reply ⌝ }
 {
-    let v = answer_verdict(u, host);
+    let ok = unit::unit_ok(u);
+    let out = u.out;
+    let v = answer_verdict(host, ok, out);
     match v {
         Verdict::Clear => {
             let slots = u.slots;

@@ -8,7 +8,7 @@ use Rattle.epc.specs.Epc.{aborts}
 use Rattle.unit.specs.Units.{waits, isOut, isOutFor, wellFormed}
 use Rattle.unit.specs.Refusals.{Row, _gives_}
 use Rattle.unit.specs.declared.Refusal.{Refusal}
-use Rattle.unit.specs.declared.Refusal.the-variants.{BadLength, BadHost, BadRecord, CommandOut, NothingDue, OwnWaiting, BadOpcode, BadField, IsStopped, Aborted}
+use Rattle.unit.specs.declared.Refusal.the-variants.{BadLength, BadHost, BadRecord, CommandOut, HasNone, OwnWaiting, BadOpcode, BadField, IsStopped, Aborted}
 use Rattle.unit.specs.declared.Verdict.{Verdict}
 use Rattle.unit.specs.declared.Verdict.the-variants.{Clear, Given}
 use Rattle.unit.specs.declared.Answer.{Answer}
@@ -69,19 +69,19 @@ waitsForDrive (requestSense host buffer) = true
 waitsForDrive (logPage buffer) = false
 
 -- 5: "next asked by a host with none waiting; answer for a host that has none out".
-abbrev pub nothingDue : Unit → Call → Bool
-nothingDue u (setFeatures q) = false
-nothingDue u tick = false
-nothingDue u (read host) = false
-nothingDue u (write host) = false
-nothingDue u powerOn = false
-nothingDue u hardReset = false
-nothingDue u softReset = false
-nothingDue u (startStop host cdb) = false
-nothingDue u (next host) = not (waits u host)
-nothingDue u (answer host reply) = not (isOutFor host (u .out))
-nothingDue u (requestSense host buffer) = false
-nothingDue u (logPage buffer) = false
+abbrev pub hasNone : Unit → Call → Bool
+hasNone u (setFeatures q) = false
+hasNone u tick = false
+hasNone u (read host) = false
+hasNone u (write host) = false
+hasNone u powerOn = false
+hasNone u hardReset = false
+hasNone u softReset = false
+hasNone u (startStop host cdb) = false
+hasNone u (next host) = not (waits u host)
+hasNone u (answer host reply) = not (isOutFor host (u .out))
+hasNone u (requestSense host buffer) = false
+hasNone u (logPage buffer) = false
 
 -- 6: "START STOP from a host whose own operation waits". 7: "opcode not 1Bh". 8: "CDB not in the list above".
 abbrev pub ofStartStop : (ℕ → List ℕ → Bool) → Call → Bool
@@ -135,7 +135,7 @@ table u c =
     ∷ (hostAbove c gives BadHost)
     ∷ (not (wellFormed u) gives BadRecord)
     ∷ (isOut (u .out) && waitsForDrive c gives CommandOut)
-    ∷ (nothingDue u c gives NothingDue)
+    ∷ (hasNone u c gives HasNone)
     ∷ (ofStartStop (λ host cdb. waits u host) c gives OwnWaiting)
     ∷ (ofStartStop (λ host cdb. not (eqb (byte 0 cdb) 0x1B)) c gives BadOpcode)
     ∷ (ofStartStop (λ host cdb. not (isListed (u .drive .records) cdb)) c gives BadField)

@@ -1,4 +1,6 @@
 pub mod Conditions
+pub mod Depths
+pub mod Numbers
 pub mod Ticks
 pub mod WellFormed
 pub mod Maker

@@ -118,14 +118,7 @@ module _ (top : ℕ) (d : Drive) where
   -- A tick counts, may change the power, and changes nothing else.
   pub tick-whole : ticked top d ≡ entered (ticked top d .power) (withIdle (counted top (d .idle .0)) d)
   unfolding ticked
-  tick-whole = either (ltb (depth (d .power)) (depth (nextAsked top d)))
-    where
-      counting : Drive
-      counting = withIdle (counted top (d .idle .0)) d
-
-      either : (b : Bool) → let e = cond b (entered (nextAsked top d) counting) counting in e ≡ entered (e .power) counting
-      either true = refl
-      either false = refl
+  tick-whole = refl
 
   -- The idle count after a tick is one more than before it; at the largest it stays.
   pub tick-idle : ticked top d .idle .0 ≡ counted top (d .idle .0)

@@ -1,8 +1,8 @@
 -- Document 01, "Conditions and settings" and "Ticks, medium calls, resets", as far as they speak of the drive alone.
 use mathlib.Core.Bool.{Bool, _&&_, cond}
 use mathlib.Core.List.{List}
-use Prim.Native.Nat.{ℕ, _+_}
-use lib.Dec.{leb, ltb}
+use Prim.Native.Nat.{ℕ, _+_, _-_}
+use lib.Dec.{leb, ltb, eqb}
 use Rattle.rows.specs.Rows.{foldAt, mapAt}
 use Rattle.drive.specs.Conditions.{conditionAt, depth}
 use Rattle.drive.specs.declared.Setting.{Setting}
@@ -61,13 +61,18 @@ heard count place r asked = cond (ranOut count r) (Low (conditionAt place) Timer
 unfoldable pub timersAsk : List Record → ℕ → Power
 timersAsk rs count = foldAt (heard count) 0 Active rs
 
+-- The power that a depth stands for, by a timer.
+abbrev pub byTimer : ℕ → Power
+byTimer n = cond (eqb n 0) Active (Low (conditionAt (n - 1)) Timer)
+
 -- "is entered, cause timer, if it is below the present one; else nothing moves".
-abbrev pub lowered : Power → Drive → Drive
-lowered asked d = cond (ltb (depth (d .power)) (depth asked)) (entered asked d) d
+abbrev pub fallen : Power → Power → Power
+fallen asked present = cond (ltb (depth present) (depth asked)) asked present
 
 -- "A tick .. adds 1 to the idle count .. Then the lowest-power condition .. is entered".
 unfoldable pub ticked : ℕ → Drive → Drive
-ticked top d = lowered (timersAsk (d .records) (counted top (d .idle .0))) (withIdle (counted top (d .idle .0)) d)
+ticked top d =
+    entered (fallen (timersAsk (d .records) (counted top (d .idle .0))) (d .power)) (withIdle (counted top (d .idle .0)) d)
 
 -- ---- the medium, power-on, manufacture
 

@@ -42,12 +42,15 @@ unsupported = record {
   current = record { enabled = false; timer = record { 0 = 0 } };
 }
 
--- One condition's record.
-unfoldable pub recordWellFormed : ℕ → Record → Bool
-recordWellFormed top r =
+-- The numbers and the enabled flags of a record.
+abbrev pub numbersWellFormed : ℕ → Record → Bool
+numbersWellFormed top r =
     leb (r .recovery .0) largestRecovery
     && settingWellFormed top (r .default) && settingWellFormed top (r .saved) && settingWellFormed top (r .current)
-    && (r .supported || othersZero r)
+
+-- One condition's record.
+unfoldable pub recordWellFormed : ℕ → Record → Bool
+recordWellFormed top r = numbersWellFormed top r && (r .supported || othersZero r)
 
 -- "The five conditions each have a record, five of a kind side by side".
 unfoldable pub recordsWellFormed : ℕ → List Record → Bool

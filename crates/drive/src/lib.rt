@@ -1,10 +1,11 @@
 // The power conditions of one drive (T13 e08120r9), without registers: settings, timers and the condition the drive is in.
 ghost use mathlib.Core.Path.{_≡_};
-ghost use mathlib.Core.Bool.{cond};
-ghost use Prim.Native.Nat.{_<_};
+ghost use mathlib.Core.Bool.{cond, not, _||_};
+ghost use lib.Dec.{eqb};
+ghost use Prim.Native.Nat.{_<_, _≤_};
 ghost use Rattle.drive.specs.Conditions.{placeOf, conditionAt, depth};
-ghost use Rattle.drive.specs.Records.{settingWellFormed, settingZero, othersZero, recordWellFormed, recordsWellFormed, driveWellFormed};
-ghost use Rattle.drive.specs.Drives.{withSettings, withRecords, withIdle, entered, restarted, counted, ranOut, timersAsk, lowered, ticked, used, savedRestored, poweredOn, madeRecord};
+ghost use Rattle.drive.specs.Records.{largest, numbersWellFormed, settingZero, othersZero, recordWellFormed, recordsWellFormed, driveWellFormed};
+ghost use Rattle.drive.specs.Drives.{withSettings, withRecords, withIdle, entered, restarted, counted, ranOut, timersAsk, byTimer, fallen, used, savedRestored, poweredOn, madeRecord};
 ghost use Rattle.drive.specs.Drives;
 ghost use Rattle.rows.specs.Rows.{mapAt};
 
@@ -67,7 +68,11 @@ pub struct Made {
 }
 
 // The largest timer and the largest idle count.
-pub const LARGEST: u32 = 65535;
+pub fn largest_timer() -> Tenths
+    ensures { λ r. ⌜ r .0 ≡ largest ⌝ }
+{
+    Tenths(65535)
+}
 
 pub fn place_of(c: Condition) -> usize
     ensures { λ r. ⌜ (r ≡ placeOf c) × (r < 5) ⌝ }
@@ -104,13 +109,6 @@ fn depth_of(p: Power) -> usize
     }
 }
 
-// An enabled setting has a nonzero timer, and no timer is above the largest.
-fn setting_ok(top: u32, s: Setting) -> bool
-    ensures { λ r. ⌜ r ≡ settingWellFormed top s ⌝ }
-{
-    (s.timer.0 <= top) & (!s.enabled | !(s.timer.0 == 0))
-}
-
 fn setting_zero(s: Setting) -> bool
     ensures { λ r. ⌜ r ≡ settingZero s ⌝ }
 {
@@ -128,18 +126,38 @@ fn others_zero(r: Record) -> bool
         & setting_zero(r.current)
 }
 
-fn record_ok(top: u32, r: Record) -> bool
-    ensures { λ ok. ⌜ ok ≡ recordWellFormed top r ⌝ }
+// An enabled setting has a nonzero timer: the flag as a number is at most the timer.
+fn enabled_ok(s: Setting) -> bool
+    ensures { λ ok. ⌜ ok ≡ not (s .enabled) || not (eqb (s .timer .0) 0) ⌝ }
 {
-    (r.recovery.0 <= 65535)
-        & setting_ok(top, r.default)
-        & setting_ok(top, r.saved)
-        & setting_ok(top, r.current)
-        & (r.supported | others_zero(r))
+    s.enabled as u32 <= s.timer.0
 }
 
-fn records_ok(top: u32, records: [Record; 5]) -> bool
-    ensures { λ ok. ⌜ ok ≡ recordsWellFormed top records ⌝ }
+// The numbers of a record, its four bounds first: so they become one comparison.
+fn numbers_ok(top: Tenths, r: Record) -> bool
+    ensures { λ ok. ⌜ ok ≡ numbersWellFormed (top .0) r ⌝ }
+{
+    (r.recovery.0 <= 65535)
+        & (r.default.timer.0 <= top.0)
+        & (r.saved.timer.0 <= top.0)
+        & (r.current.timer.0 <= top.0)
+        & enabled_ok(r.default)
+        & enabled_ok(r.saved)
+        & enabled_ok(r.current)
+}
+
+fn record_ok(top: Tenths, r: Record) -> bool
+    ensures { λ ok. ⌜ ok ≡ recordWellFormed (top .0) r ⌝ }
+{
+    if r.supported {
+        numbers_ok(top, r)
+    } else {
+        others_zero(r)
+    }
+}
+
+fn records_ok(top: Tenths, records: [Record; 5]) -> bool
+    ensures { λ ok. ⌜ ok ≡ recordsWellFormed (top .0) records ⌝ }
 {
     let mut ok = true;
     let mut i = 0;
@@ -152,11 +170,11 @@ fn records_ok(top: u32, records: [Record; 5]) -> bool
 }
 
 // Whether every number and flag of the drive is one that document 01 allows.
-pub fn drive_ok(top: u32, d: Drive) -> bool
-    ensures { λ ok. ⌜ ok ≡ driveWellFormed top d ⌝ }
+pub fn drive_ok(top: Tenths, d: Drive) -> bool
+    ensures { λ ok. ⌜ ok ≡ driveWellFormed (top .0) d ⌝ }
 {
     let records = d.records;
-    records_ok(top, records) & (d.idle.0 <= top)
+    records_ok(top, records) & (d.idle.0 <= top.0)
 }
 
 // Every change of condition goes through here.
@@ -172,18 +190,18 @@ pub fn enter(d: Drive, p: Power) -> Drive
     }
 }
 
-fn with_idle(d: Drive, n: u32) -> Drive
-    ensures { λ r. ⌜ r ≡ withIdle n d ⌝ }
+fn with_idle(d: Drive, n: Tenths) -> Drive
+    ensures { λ r. ⌜ r ≡ withIdle (n .0) d ⌝ }
 {
     let mut e = d;
-    e.idle.0 = n;
+    e.idle = n;
     e
 }
 
 pub fn restart(d: Drive) -> Drive
     ensures { λ r. ⌜ r ≡ restarted d ⌝ }
 {
-    with_idle(d, 0)
+    with_idle(d, Tenths(0))
 }
 
 pub fn with_records(d: Drive, records: [Record; 5]) -> Drive
@@ -204,57 +222,55 @@ pub fn with_settings(r: Record, saved: Setting, current: Setting) -> Record
 }
 
 // One more tenth; at the largest the count stays.
-fn count(top: u32, n: u32) -> u32
-    ensures { λ r. ⌜ r ≡ counted top n ⌝ }
+pub fn count(top: Tenths, n: Tenths) -> Tenths
+    ensures { λ r. ⌜ r .0 ≡ counted (top .0) (n .0) ⌝ }
 {
-    if n < top { n + 1 } else { n }
+    if n.0 < top.0 { Tenths(n.0 + 1) } else { n }
 }
 
-fn ran_out(count: u32, r: Record) -> bool
-    ensures { λ out. ⌜ out ≡ ranOut count r ⌝ }
+fn ran_out(count: Tenths, r: Record) -> bool
+    ensures { λ out. ⌜ out ≡ ranOut (count .0) r ⌝ }
 {
-    r.current.enabled & (r.current.timer.0 <= count)
+    r.current.enabled & (r.current.timer.0 <= count.0)
 }
 
-fn pick(b: bool, x: Power, y: Power) -> Power
+fn pick(b: bool, x: usize, y: usize) -> usize
     ensures { λ r. ⌜ r ≡ cond b x y ⌝ }
 {
     if b { x } else { y }
 }
 
-// The lowest condition that has run out by this count; the present condition has no say in it.
-fn timers_ask(records: [Record; 5], count: u32) -> Power
-    ensures { λ r. ⌜ r ≡ timersAsk records count ⌝ }
+// The depth of the lowest condition that has run out by this count, 0 for none; the present condition has no say in it.
+fn depth_asked(records: [Record; 5], count: Tenths) -> usize
+    ensures { λ r. ⌜ (timersAsk records (count .0) ≡ byTimer r) × (r ≤ 5) ⌝ }
 {
-    let mut asked = Power::Active;
+    let mut found = 0;
     let mut i = 0;
     while i < 5 {
         let due = ran_out(count, records[i]);
-        let here = Power::Low(condition_at(i), Cause::Timer);
-        asked = pick(due, here, asked);
+        found = pick(due, i + 1, found);
         i += 1;
     }
-    asked
+    found
 }
 
-// A timer only ever lowers the power.
-fn lower(d: Drive, asked: Power) -> Drive
-    ensures { λ r. ⌜ r ≡ lowered asked d ⌝ }
+// Where the timers leave the power: a timer only ever lowers it.
+pub fn timed_power(records: [Record; 5], power: Power, count: Tenths) -> Power
+    ensures { λ r. ⌜ r ≡ fallen (timersAsk records (count .0)) power ⌝ }
 {
-    let power = d.power;
-    if depth_of(power) < depth_of(asked) {
-        enter(d, asked)
+    let asked = depth_asked(records, count);
+    if depth_of(power) < asked {
+        Power::Low(condition_at(asked - 1), Cause::Timer)
     } else {
-        d
+        power
     }
 }
 
-pub fn tick(top: u32, d: Drive) -> Drive
-    ensures { λ r. ⌜ r ≡ ticked top d ⌝ }
+// Another condition, with another idle count.
+pub fn move_to(d: Drive, p: Power, n: Tenths) -> Drive
+    ensures { λ r. ⌜ r ≡ entered p (withIdle (n .0) d) ⌝ }
 {
-    let n = count(top, d.idle.0);
-    let records = d.records;
-    lower(with_idle(d, n), timers_ask(records, n))
+    enter(with_idle(d, n), p)
 }
 
 // The medium was used.

@@ -5,7 +5,7 @@ use Prim.Native.Nat.{ℕ}
 use lib.Dec.{eqb}
 use Rattle.unit.specs.Units.{rested}
 use Rattle.unit.specs.declared.Refusal.{Refusal}
-use Rattle.unit.specs.declared.Refusal.the-variants.{BadLength, BadHost, BadRecord, CommandOut, NothingDue, OwnWaiting, BadOpcode, BadField, IsStopped, Aborted}
+use Rattle.unit.specs.declared.Refusal.the-variants.{BadLength, BadHost, BadRecord, CommandOut, HasNone, OwnWaiting, BadOpcode, BadField, IsStopped, Aborted}
 use Rattle.unit.specs.declared.SenseDue.{SenseDue}
 use Rattle.unit.specs.declared.SenseDue.the-variants.{NoSense, WithSense}
 use Rattle.unit.specs.declared.Verdict.{Verdict}
@@ -21,7 +21,7 @@ numberOf BadLength = 1
 numberOf BadHost = 2
 numberOf BadRecord = 3
 numberOf CommandOut = 4
-numberOf NothingDue = 5
+numberOf HasNone = 5
 numberOf OwnWaiting = 6
 numberOf BadOpcode = 7
 numberOf BadField = 8
@@ -34,7 +34,7 @@ senseOf BadLength = NoSense
 senseOf BadHost = NoSense
 senseOf BadRecord = NoSense
 senseOf CommandOut = NoSense
-senseOf NothingDue = NoSense
+senseOf HasNone = NoSense
 senseOf OwnWaiting = WithSense (record { key = 0x02; asc = 0x04; ascq = 0x07 })
 senseOf BadOpcode = WithSense (record { key = 0x05; asc = 0x20; ascq = 0x00 })
 senseOf BadField = WithSense (record { key = 0x05; asc = 0x24; ascq = 0x00 })

@@ -4,11 +4,13 @@ ghost use Prim.Native.Nat.{_<_};
 ghost use lib.ListN.{set};
 ghost use Rattle.unit.specs.Units.{slotOf, isWaiting, waits, heldOf, isOut, isOutFor, supportedIn, requestWellFormed, slotWellFormed, hostsWellFormed, outWellFormed, wellFormed, withDrive, withMarks, withSlot, withHeld, withOut, withoutHosts, rested};
 ghost use Rattle.unit.specs.Refusals.{numberOf, senseOf, _gives_, lowest, orElse, afterRefusal, settled};
-ghost use Rattle.unit.specs.Calls.{epcRows, epcEffect, epcOutcome, failureSense, toldBytes, senseEffect, senseOutcome, logRows, logOutcome, notWellFormed, hostRows, madeUnit, blank, manufactureOutcome, tickEffect, tickOutcome, mediumRows, readEffect, readOutcome, writeEffect, writeOutcome, powerOnEffect, powerOnOutcome, hardResetEffect, resetOutcome};
+ghost use Rattle.unit.specs.Calls.{epcRows, epcEffect, epcOutcome, failureSense, toldBytes, senseEffect, senseOutcome, logRows, logOutcome, notWellFormed, hostRows, madeUnit, blank, manufactureOutcome, tickOutcome, mediumRows, readEffect, readOutcome, writeEffect, writeOutcome, powerOnEffect, powerOnOutcome, hardResetEffect, resetOutcome};
 ghost use mathlib.Core.List.{[], _∷_};
-ghost use mathlib.Core.Bool.{not};
-ghost use lib.Dec.{eqb};
-ghost use Rattle.unit.specs.declared.Refusal.the-variants.{BadLength};
+ghost use mathlib.Core.Bool.{not, cond};
+ghost use lib.Dec.{eqb, ltb};
+ghost use Rattle.drive.specs.Records.{largest};
+ghost use Rattle.drive.specs.Drives.{withIdle, entered, counted, timersAsk, fallen};
+ghost use Rattle.unit.specs.declared.Refusal.the-variants.{BadLength, BadHost, BadRecord, CommandOut, IsStopped, Aborted};
 ghost use Rattle.unit.specs.declared.SenseDue.the-variants.{WithSense};
 use drive::Condition;
 use drive::Drive;
@@ -86,7 +88,7 @@ pub enum Refusal {
     BadHost,
     BadRecord,
     CommandOut,
-    NothingDue,
+    HasNone,
     OwnWaiting,
     BadOpcode,
     BadField,
@@ -124,7 +126,7 @@ pub fn number(r: Refusal) -> u32
         Refusal::BadHost => 2,
         Refusal::BadRecord => 3,
         Refusal::CommandOut => 4,
-        Refusal::NothingDue => 5,
+        Refusal::HasNone => 5,
         Refusal::OwnWaiting => 6,
         Refusal::BadOpcode => 7,
         Refusal::BadField => 8,
@@ -147,7 +149,7 @@ pub fn sense_of(r: Refusal) -> SenseDue
         Refusal::BadHost => SenseDue::NoSense,
         Refusal::BadRecord => SenseDue::NoSense,
         Refusal::CommandOut => SenseDue::NoSense,
-        Refusal::NothingDue => SenseDue::NoSense,
+        Refusal::HasNone => SenseDue::NoSense,
         Refusal::OwnWaiting => with_sense(0x02, 0x04, 0x07),
         Refusal::BadOpcode => with_sense(0x05, 0x20, 0x00),
         Refusal::BadField => with_sense(0x05, 0x24, 0x00),
@@ -186,13 +188,17 @@ pub fn is_out(o: Out) -> bool
     }
 }
 
-// A condition's support, as its record has it.
+// A condition's support, as its record has it. Fixed places: no copy of the records is made to look into.
 pub fn supported_in(records: [Record; 5], c: Condition) -> bool
     ensures { λ r. ⌜ r ≡ supportedIn records c ⌝ }
 {
-    let at = drive::place_of(c);
-    let r = records[at];
-    r.supported
+    match c {
+        Condition::IdleA => records[0].supported,
+        Condition::IdleB => records[1].supported,
+        Condition::IdleC => records[2].supported,
+        Condition::StandbyY => records[3].supported,
+        Condition::StandbyZ => records[4].supported,
+    }
 }
 
 // A waiting request is one that START STOP UNIT accepts.
@@ -247,7 +253,7 @@ fn out_ok(slots: [HostSlot; 4], out: Out) -> bool
     }
 }
 
-// Whether the record is well formed: asked first by every call.
+// Whether the record is well formed. A call asks this of the record it was handed, once.
 pub fn unit_ok(u: Unit) -> bool
     ensures { λ r. ⌜ r ≡ wellFormed u ⌝ }
 {
@@ -256,7 +262,7 @@ pub fn unit_ok(u: Unit) -> bool
     let slots = u.slots;
     let held = u.held;
     let out = u.out;
-    drive::drive_ok(drive::LARGEST, d) & hosts_ok(records, slots, held) & out_ok(slots, out)
+    drive::drive_ok(drive::largest_timer(), d) & hosts_ok(records, slots, held) & out_ok(slots, out)
 }
 
 pub fn with_drive(u: Unit, d: Drive) -> Unit
@@ -401,39 +407,52 @@ pub fn or_else(v: Verdict, next: Verdict) -> Verdict
     }
 }
 
-// Number 3 alone: ticks and resets.
-fn record_verdict(u: Unit) -> Verdict
-    ensures { λ v. ⌜ v ≡ lowest (notWellFormed u ∷ []) ⌝ }
+// Number 3.
+fn record_verdict(ok: bool) -> Verdict
+    ensures { λ v. ⌜ v ≡ lowest ((not ok gives BadRecord) ∷ []) ⌝ }
 {
-    given_if(!unit_ok(u), Refusal::BadRecord)
+    given_if(!ok, Refusal::BadRecord)
 }
 
 // Numbers 2, 3 and 4: every call of a host but the answer.
-pub fn host_verdict(u: Unit, host: u32) -> Verdict
-    ensures { λ v. ⌜ v ≡ lowest (hostRows u host) ⌝ }
+pub fn host_verdict(host: u32, ok: bool, out: Out) -> Verdict
+    ensures { λ v. ⌜ v ≡ lowest ((ltb 3 host gives BadHost) ∷ (not ok gives BadRecord) ∷ (isOut out gives CommandOut) ∷ []) ⌝ }
 {
     if 3 < host {
         return Verdict::Given(Refusal::BadHost);
     }
-    if !unit_ok(u) {
+    if !ok {
         return Verdict::Given(Refusal::BadRecord);
     }
-    let out = u.out;
-    if is_out(out) {
-        return Verdict::Given(Refusal::CommandOut);
-    }
-    Verdict::Clear
+    given_if(is_out(out), Refusal::CommandOut)
 }
 
-fn tick_effect(u: Unit) -> Unit
-    ensures { λ v. ⌜ v ≡ tickEffect u ⌝ }
+// The unit in another condition, with another idle count.
+fn move_to(u: Unit, p: Power, n: Tenths) -> Unit
+    ensures { λ v. ⌜ v ≡ withDrive (entered p (withIdle (n .0) (u .drive))) u ⌝ }
 {
-    let out = u.out;
-    if is_out(out) {
-        u
+    let d = u.drive;
+    with_drive(u, drive::move_to(d, p, n))
+}
+
+// With a command out neither the count nor the power moves.
+fn ticked_idle(out: bool, idle: Tenths) -> Tenths
+    ensures { λ n. ⌜ n .0 ≡ cond out (idle .0) (counted largest (idle .0)) ⌝ }
+{
+    if out {
+        idle
     } else {
-        let d = u.drive;
-        with_drive(u, drive::tick(drive::LARGEST, d))
+        drive::count(drive::largest_timer(), idle)
+    }
+}
+
+fn ticked_power(out: bool, records: [Record; 5], power: Power, idle: Tenths) -> Power
+    ensures { λ p. ⌜ p ≡ cond out power (fallen (timersAsk records (idle .0)) power) ⌝ }
+{
+    if out {
+        power
+    } else {
+        drive::timed_power(records, power, idle)
     }
 }
 
@@ -441,16 +460,24 @@ fn tick_effect(u: Unit) -> Unit
 pub fn tick(u: Unit) -> Called
     ensures { λ c. ⌜ c ≡ tickOutcome u ⌝ }
 {
-    settle(u, tick_effect(u), record_verdict(u))
+    let ok = unit_ok(u);
+    let d = u.drive;
+    let records = u.drive.records;
+    let power = d.power;
+    let out = u.out;
+    let still = is_out(out);
+    let n = ticked_idle(still, u.drive.idle);
+    let p = ticked_power(still, records, power, n);
+    settle(u, move_to(u, p, n), record_verdict(ok))
 }
 
 // Numbers 2, 3, 4 and 9.
-fn medium_verdict(u: Unit, host: u32) -> Verdict
-    ensures { λ v. ⌜ v ≡ lowest (mediumRows u host) ⌝ }
+fn medium_verdict(host: u32, ok: bool, out: Out, stopped: bool) -> Verdict
+    ensures { λ v. ⌜ v ≡ lowest ((ltb 3 host gives BadHost) ∷ (not ok gives BadRecord) ∷ (isOut out gives CommandOut) ∷ (stopped gives IsStopped) ∷ []) ⌝ }
 {
     or_else(
-        host_verdict(u, host),
-        given_if(u.stopped, Refusal::IsStopped),
+        host_verdict(host, ok, out),
+        given_if(stopped, Refusal::IsStopped),
     )
 }
 
@@ -471,14 +498,18 @@ fn write_effect(u: Unit) -> Unit
 pub fn read(u: Unit, host: u32) -> Called
     ensures { λ c. ⌜ c ≡ readOutcome u host ⌝ }
 {
-    settle(u, read_effect(u), medium_verdict(u, host))
+    let ok = unit_ok(u);
+    let out = u.out;
+    settle(u, read_effect(u), medium_verdict(host, ok, out, u.stopped))
 }
 
 // A host has written to the medium: what it wrote is unsaved until a flush is answered good.
 pub fn write(u: Unit, host: u32) -> Called
     ensures { λ c. ⌜ c ≡ writeOutcome u host ⌝ }
 {
-    settle(u, write_effect(u), medium_verdict(u, host))
+    let ok = unit_ok(u);
+    let out = u.out;
+    settle(u, write_effect(u), medium_verdict(host, ok, out, u.stopped))
 }
 
 fn power_on_effect(u: Unit) -> Unit
@@ -492,7 +523,8 @@ fn power_on_effect(u: Unit) -> Unit
 pub fn power_on(u: Unit) -> Called
     ensures { λ c. ⌜ c ≡ powerOnOutcome u ⌝ }
 {
-    settle(u, power_on_effect(u), record_verdict(u))
+    let ok = unit_ok(u);
+    settle(u, power_on_effect(u), record_verdict(ok))
 }
 
 fn hard_reset_effect(u: Unit) -> Unit
@@ -504,7 +536,8 @@ fn hard_reset_effect(u: Unit) -> Unit
 pub fn hard_reset(u: Unit) -> Called
     ensures { λ c. ⌜ c ≡ resetOutcome u ⌝ }
 {
-    settle(u, hard_reset_effect(u), record_verdict(u))
+    let ok = unit_ok(u);
+    settle(u, hard_reset_effect(u), record_verdict(ok))
 }
 
 // A software reset is its own call with the effect of a hardware reset.
@@ -554,20 +587,19 @@ pub fn manufacture(made: [Made; 5]) -> Called
     ensures { λ c. ⌜ c ≡ manufactureOutcome made ⌝ }
 {
     let u = made_unit(made);
-    settle(blank_unit(), u, record_verdict(u))
+    let ok = unit_ok(u);
+    settle(blank_unit(), u, record_verdict(ok))
 }
 
 // Numbers 3, 4 and 10.
-fn epc_verdict(u: Unit, q: Registers) -> Verdict
-    ensures { λ v. ⌜ v ≡ lowest (epcRows u q) ⌝ }
+fn epc_verdict(ok: bool, out: Out, aborts: bool) -> Verdict
+    ensures { λ v. ⌜ v ≡ lowest ((not ok gives BadRecord) ∷ (isOut out gives CommandOut) ∷ (aborts gives Aborted) ∷ []) ⌝ }
 {
-    let records = u.drive.records;
-    let out = u.out;
     or_else(
-        record_verdict(u),
+        record_verdict(ok),
         or_else(
             given_if(is_out(out), Refusal::CommandOut),
-            given_if(epc::aborts(q, records), Refusal::Aborted),
+            given_if(aborts, Refusal::Aborted),
         ),
     )
 }
@@ -583,7 +615,14 @@ fn epc_effect(u: Unit, q: Registers) -> Unit
 pub fn set_features(u: Unit, q: Registers) -> Called
     ensures { λ c. ⌜ c ≡ epcOutcome u q ⌝ }
 {
-    settle(u, epc_effect(u, q), epc_verdict(u, q))
+    let ok = unit_ok(u);
+    let records = u.drive.records;
+    let out = u.out;
+    settle(
+        u,
+        epc_effect(u, q),
+        epc_verdict(ok, out, epc::aborts(q, records)),
+    )
 }
 
 fn held_of(held: [HostHeld; 4], host: u32) -> Held
@@ -636,12 +675,12 @@ fn sense_effect(u: Unit, host: u32) -> Unit
     with_held(rest(u), host, Held::Nothing)
 }
 
-fn sense_verdict(u: Unit, host: u32, length: usize) -> Verdict
-    ensures { λ v. ⌜ v ≡ lowest ((not (eqb length 18) gives BadLength) ∷ hostRows u host) ⌝ }
+fn sense_verdict(length: usize, host: u32, ok: bool, out: Out) -> Verdict
+    ensures { λ v. ⌜ v ≡ lowest ((not (eqb length 18) gives BadLength) ∷ (ltb 3 host gives BadHost) ∷ (not ok gives BadRecord) ∷ (isOut out gives CommandOut) ∷ []) ⌝ }
 {
     or_else(
         given_if(!(length == 18), Refusal::BadLength),
-        host_verdict(u, host),
+        host_verdict(host, ok, out),
     )
 }
 
@@ -649,7 +688,9 @@ fn sense_verdict(u: Unit, host: u32, length: usize) -> Verdict
 pub fn request_sense(u: Unit, host: u32, buffer: &mut [u8]) -> Called
     ensures { λ c. ⌜ (c ≡ senseOutcome u host (now (buffer .entry)) .called) × (now (buffer .exit) ≡ senseOutcome u host (now (buffer .entry)) .buffer) ⌝ }
 {
-    let v = sense_verdict(u, host, buffer.len());
+    let ok = unit_ok(u);
+    let out = u.out;
+    let v = sense_verdict(buffer.len(), host, ok, out);
     match v {
         Verdict::Clear => {
             let bytes = told(u, host);
@@ -660,12 +701,12 @@ pub fn request_sense(u: Unit, host: u32, buffer: &mut [u8]) -> Called
     }
 }
 
-fn log_verdict(u: Unit, length: usize) -> Verdict
-    ensures { λ v. ⌜ v ≡ lowest ((not (eqb length 512) gives BadLength) ∷ notWellFormed u ∷ []) ⌝ }
+fn log_verdict(length: usize, ok: bool) -> Verdict
+    ensures { λ v. ⌜ v ≡ lowest ((not (eqb length 512) gives BadLength) ∷ (not ok gives BadRecord) ∷ []) ⌝ }
 {
     or_else(
         given_if(!(length == 512), Refusal::BadLength),
-        record_verdict(u),
+        record_verdict(ok),
     )
 }
 
@@ -673,7 +714,8 @@ fn log_verdict(u: Unit, length: usize) -> Verdict
 pub fn log_page(u: Unit, buffer: &mut [u8]) -> Answer
     ensures { λ a. ⌜ (a ≡ logOutcome u (now (buffer .entry)) .called .answer) × (now (buffer .exit) ≡ logOutcome u (now (buffer .entry)) .buffer) ⌝ }
 {
-    let v = log_verdict(u, buffer.len());
+    let ok = unit_ok(u);
+    let v = log_verdict(buffer.len(), ok);
     match v {
         Verdict::Clear => {
             let records = u.drive.records;

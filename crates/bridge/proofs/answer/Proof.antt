@@ -5,6 +5,9 @@ use borrow.Author.Needs.{needs}
 use Rattle.bridge.proofs.answer.Statement.{statement}
 use Rattle.bridge.proofs.answer.Tie as tie
 
+unit-ok-requires : tie.Need-unit-ok-requires
+unit-ok-requires c κs = search needs
+
 answer-verdict-requires : tie.Need-answer-verdict-requires
 answer-verdict-requires c κs = search needs
 
@@ -25,16 +28,17 @@ after-refusal-requires c κs = search needs
 
 returns : tie.Need-returns
 unfolding answerOutcome
-returns c = let clear = sym (c .before .before .before .before .before .answer-verdict .ensures) ∙ c .before .before .before .enum-told .given .1 in rw (clear, c .answer-on .ensures, c .before .slot-of .ensures)
+returns c = let clear = rw (c .before .before .before .before .before .before .unit-ok .ensures) at (sym (c .before .before .before .before .before .answer-verdict .ensures) ∙ c .before .before .before .enum-told .given .1) in rw (clear, c .answer-on .ensures, c .before .slot-of .ensures)
 
 returns-2 : tie.Need-returns-2
 unfolding answerOutcome
-returns-2 c = let given = sym (c .before .before .before .before .answer-verdict .ensures) ∙ c .before .before .v .given .1 in rw (given, c .after-refusal .ensures)
+returns-2 c = let given = rw (c .before .before .before .before .before .unit-ok .ensures) at (sym (c .before .before .before .before .answer-verdict .ensures) ∙ c .before .before .v .given .1) in rw (given, c .after-refusal .ensures)
 
 pub answer-spec : {M : Type 1} → statement M
 answer-spec =
     tie.close
     (tie.spec
+    unit-ok-requires
     answer-verdict-requires
     enum-told
     slot-of-requires

@@ -1,16 +1,15 @@
 -- The three rows in their order.
 use mathlib.Core.List.{[], _∷_}
 use Rattle.unit.proofs.Verdicts.{lowest-append}
-use Rattle.unit.specs.Calls.{notWellFormed}
+use Rattle.unit.specs.Refusals.{_gives_}
+use Rattle.unit.specs.declared.Refusal.the-variants.{BadRecord}
+use mathlib.Core.Bool.{not}
 use borrow.Author.Needs.{needs}
 use Rattle.bridge.proofs.answer_verdict.Statement.{statement}
 use Rattle.bridge.proofs.answer_verdict.Tie as tie
 
 given-if-requires : tie.Need-given-if-requires
 given-if-requires c κs = search needs
-
-unit-ok-requires : tie.Need-unit-ok-requires
-unit-ok-requires c κs = search needs
 
 given-if-requires-2 : tie.Need-given-if-requires-2
 given-if-requires-2 c κs = search needs
@@ -28,14 +27,13 @@ or-else-requires-2 : tie.Need-or-else-requires-2
 or-else-requires-2 c κs = search needs
 
 returns : tie.Need-returns
-returns c = rw (c .or-else2 .ensures, c .before .or-else .ensures, c .before .before .given-if3 .ensures, c .before .before .before .is-out-for .ensures, c .before .before .before .before .given-if2 .ensures, c .before .before .before .before .before .unit-ok .ensures, c .before .before .before .before .before .before .given-if .ensures, lowest-append (notWellFormed (c .before .before .before .before .before .before .before .args .u) ∷ []) _) (lowest-append _ _)
+returns c = rw (c .or-else2 .ensures, c .before .or-else .ensures, c .before .before .given-if3 .ensures, c .before .before .before .is-out-for .ensures, c .before .before .before .before .given-if2 .ensures, c .before .before .before .before .before .given-if .ensures, lowest-append ((not (c .before .before .before .before .before .before .args .ok) gives BadRecord) ∷ []) _) (lowest-append _ _)
 
 pub answer-verdict-spec : {M : Type 1} → statement M
 answer-verdict-spec =
     tie.close
     (tie.spec
     given-if-requires
-    unit-ok-requires
     given-if-requires-2
     is-out-for-requires
     given-if-requires-3

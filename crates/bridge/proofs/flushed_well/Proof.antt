@@ -12,6 +12,9 @@ one-more-requires c κs = search needs
 take-requires : tie.Need-take-requires
 take-requires c κs = search needs
 
+entering-requires : tie.Need-entering-requires
+entering-requires c κs = search needs
+
 with-marks-requires : tie.Need-with-marks-requires
 with-marks-requires c κs = search needs
 
@@ -19,7 +22,7 @@ with-slot-requires : tie.Need-with-slot-requires
 with-slot-requires c κs = search needs
 
 returns : tie.Need-returns
-returns c = rw (c .with-slot .ensures, c .before .with-marks .ensures, c .before .before .take .ensures, c .before .before .before .one-more .ensures, c .before .before .before .before .flushes-of .ensures)
+returns c = rw (c .with-slot .ensures, c .before .with-marks .ensures, c .before .before .entering .ensures, c .before .before .before .take .ensures, c .before .before .before .before .one-more .ensures, c .before .before .before .before .before .flushes-of .ensures)
 
 pub flushed-well-spec : {M : Type 1} → statement M
 flushed-well-spec =
@@ -28,6 +31,7 @@ flushed-well-spec =
     flushes-of-requires
     one-more-requires
     take-requires
+    entering-requires
     with-marks-requires
     with-slot-requires
     returns)

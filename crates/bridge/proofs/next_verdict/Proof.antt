@@ -5,12 +5,6 @@ use borrow.Author.Needs.{needs}
 use Rattle.bridge.proofs.next_verdict.Statement.{statement}
 use Rattle.bridge.proofs.next_verdict.Tie as tie
 
-slot-of-requires : tie.Need-slot-of-requires
-slot-of-requires c κs = search needs
-
-is-waiting-requires : tie.Need-is-waiting-requires
-is-waiting-requires c κs = search needs
-
 host-verdict-requires : tie.Need-host-verdict-requires
 host-verdict-requires c κs = search needs
 
@@ -21,15 +15,8 @@ or-else-requires : tie.Need-or-else-requires
 or-else-requires c κs = search needs
 
 returns : tie.Need-returns
-returns c = rw (c .or-else .ensures, c .before .given-if .ensures, c .before .before .host-verdict .ensures, c .before .before .before .is-waiting .ensures, c .before .before .before .before .slot-of .ensures) (lowest-append _ _)
+returns c = rw (c .or-else .ensures, c .before .given-if .ensures, c .before .before .host-verdict .ensures) (lowest-append _ _)
 
 pub next-verdict-spec : {M : Type 1} → statement M
 next-verdict-spec =
-    tie.close
-    (tie.spec
-    slot-of-requires
-    is-waiting-requires
-    host-verdict-requires
-    given-if-requires
-    or-else-requires
-    returns)
+    tie.close (tie.spec host-verdict-requires given-if-requires or-else-requires returns)

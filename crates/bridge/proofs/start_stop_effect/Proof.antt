@@ -3,9 +3,6 @@ use borrow.Author.Needs.{needs}
 use Rattle.bridge.proofs.start_stop_effect.Statement.{statement}
 use Rattle.bridge.proofs.start_stop_effect.Tie as tie
 
-read-wanted-requires : tie.Need-read-wanted-requires
-read-wanted-requires c κs = search needs
-
 enum-told : tie.Need-enum-told
 enum-told c = search needs
 
@@ -22,16 +19,15 @@ with-slot-requires : tie.Need-with-slot-requires
 with-slot-requires c κs = search needs
 
 returns : tie.Need-returns
-returns c = rw (← c .before .before .read-wanted .ensures, c .enum-told .given .1)
+returns c = search needs
 
 returns-2 : tie.Need-returns-2
-returns-2 c = rw (c .with-slot .ensures, c .before .request-for .ensures, c .before .before .rest .ensures, ← c .before .before .before .before .before .before .read-wanted .ensures, c .before .before .before .before .w .given .1)
+returns-2 c = rw (c .before .before .before .before .w .given .1, c .with-slot .ensures, c .before .request-for .ensures, c .before .before .rest .ensures)
 
 pub start-stop-effect-spec : {M : Type 1} → statement M
 start-stop-effect-spec =
     tie.close
     (tie.spec
-    read-wanted-requires
     enum-told
     enum-known-w
     rest-requires

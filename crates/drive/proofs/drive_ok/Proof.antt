@@ -9,7 +9,7 @@ records-ok-requires c κs = search needs
 
 returns : tie.Need-returns
 unfolding driveWellFormed
-returns c = rw (c .before .records-ok .ensures)
+returns c = rw (c .before .before .records-ok .ensures)
 
 pub drive-ok-spec : {M : Type 1} → statement M
 drive-ok-spec = tie.close (tie.spec records-ok-requires returns)

@@ -1,7 +1,9 @@
 -- The three rows in their order.
 use mathlib.Core.List.{[], _∷_}
-use Rattle.unit.specs.Calls.{commandOut}
 use Rattle.unit.proofs.Verdicts.{lowest-append}
+use Rattle.unit.specs.Refusals.{_gives_}
+use Rattle.unit.specs.Units.{isOut}
+use Rattle.unit.specs.declared.Refusal.the-variants.{CommandOut}
 use borrow.Author.Needs.{needs}
 use Rattle.unit.proofs.epc_verdict.Statement.{statement}
 use Rattle.unit.proofs.epc_verdict.Tie as tie
@@ -15,9 +17,6 @@ is-out-requires c κs = search needs
 given-if-requires : tie.Need-given-if-requires
 given-if-requires c κs = search needs
 
-aborts-requires : tie.Need-aborts-requires
-aborts-requires c κs = search needs
-
 given-if-requires-2 : tie.Need-given-if-requires-2
 given-if-requires-2 c κs = search needs
 
@@ -28,7 +27,7 @@ or-else-requires-2 : tie.Need-or-else-requires-2
 or-else-requires-2 c κs = search needs
 
 returns : tie.Need-returns
-returns c = let b = c .before in let u = b .before .before .before .before .before .before .before .args .u in rw (c .or-else2 .ensures, b .or-else .ensures, b .before .given-if2 .ensures, b .before .before .aborts .ensures, b .before .before .before .given-if .ensures, b .before .before .before .before .is-out .ensures, b .before .before .before .before .before .record-verdict .ensures, lowest-append (commandOut u ∷ []) _) (lowest-append _ _)
+returns c = rw (c .or-else2 .ensures, c .before .or-else .ensures, c .before .before .given-if2 .ensures, c .before .before .before .given-if .ensures, c .before .before .before .before .is-out .ensures, c .before .before .before .before .before .record-verdict .ensures, lowest-append ((isOut (c .before .before .before .before .before .before .args .out) gives CommandOut) ∷ []) _) (lowest-append _ _)
 
 pub epc-verdict-spec : {M : Type 1} → statement M
 epc-verdict-spec =
@@ -37,7 +36,6 @@ epc-verdict-spec =
     record-verdict-requires
     is-out-requires
     given-if-requires
-    aborts-requires
     given-if-requires-2
     or-else-requires
     or-else-requires-2

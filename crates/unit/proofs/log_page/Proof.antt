@@ -11,6 +11,9 @@ use borrow.Author.Needs.{needs}
 use Rattle.unit.proofs.log_page.Statement.{statement}
 use Rattle.unit.proofs.log_page.Tie as tie
 
+unit-ok-requires : tie.Need-unit-ok-requires
+unit-ok-requires c κs = search needs
+
 log-verdict-requires : tie.Need-log-verdict-requires
 log-verdict-requires c κs = search needs
 
@@ -26,7 +29,7 @@ slice-aggregate-copy-in c = search needs
 copy-in-requires : tie.Need-copy-in-requires
 copy-in-requires c κs =
     let v = c .before .before .before .before .before .before in
-    let full : length (now (v .before .before .args .buffer)) ≡ 512 = clear-length _ _ _ _ (sym (v .log-verdict .ensures) ∙ c .before .before .before .before .enum-told .given .1) in
+    let full : length (now (v .before .before .before .args .buffer)) ≡ 512 = clear-length _ _ _ _ (sym (v .log-verdict .ensures) ∙ c .before .before .before .before .enum-told .given .1) in
     omega arith
 
 enum-known-v : tie.Need-enum-known-v
@@ -39,24 +42,26 @@ returns : tie.Need-returns
 unfolding logOutcome
 returns c =
     let v = c .before .before .before .before .before .before .before .before .before in
-    let start = v .before .before .args in
-    let clear = sym (v .log-verdict .ensures) ∙ c .before .before .before .before .before .before .before .enum-told .given .1 in
+    let page = c .before .before .before .before .before in
+    let start = v .before .before .before .args in
+    let clear = rw (v .before .unit-ok .ensures) at (sym (v .log-verdict .ensures) ∙ c .before .before .before .before .before .before .before .enum-told .given .1) in
     let full : length (now (start .buffer)) ≡ 512 = clear-length _ _ _ _ clear in (
       rw clear,
-      rw (clear, c .before .before .copy-in .ensures, copied-whole (now (start .buffer)) (c .before .before .before .before .before .log-page .result) (omega arith)) (c .before .before .before .before .before .log-page .ensures),
+      rw (clear, c .before .before .copy-in .ensures, copied-whole (now (start .buffer)) (page .log-page .result) (omega (arith, page .log-page .ok))) (page .log-page .ensures),
     )
 
 returns-2 : tie.Need-returns-2
 unfolding logOutcome
 returns-2 c =
     let v = c .before .before .before in
-    let given = sym (v .log-verdict .ensures) ∙ c .before .v .given .1 in
+    let given = rw (v .before .unit-ok .ensures) at (sym (v .log-verdict .ensures) ∙ c .before .v .given .1) in
     (rw given, rw given)
 
 pub log-page-spec : {M : Type 1} → statement M
 log-page-spec =
     tie.close
     (tie.spec
+    unit-ok-requires
     log-verdict-requires
     enum-told
     log-page-requires

@@ -4,6 +4,9 @@ use borrow.Author.Needs.{needs}
 use Rattle.unit.proofs.power_on.Statement.{statement}
 use Rattle.unit.proofs.power_on.Tie as tie
 
+unit-ok-requires : tie.Need-unit-ok-requires
+unit-ok-requires c κs = search needs
+
 power-on-effect-requires : tie.Need-power-on-effect-requires
 power-on-effect-requires c κs = search needs
 
@@ -15,8 +18,14 @@ settle-requires c κs = search needs
 
 returns : tie.Need-returns
 unfolding powerOnOutcome
-returns c = rw (c .settle .ensures, c .before .record-verdict .ensures, c .before .before .power-on-effect .ensures)
+returns c = rw (c .settle .ensures, c .before .record-verdict .ensures, c .before .before .power-on-effect .ensures, c .before .before .before .unit-ok .ensures)
 
 pub power-on-spec : {M : Type 1} → statement M
 power-on-spec =
-    tie.close (tie.spec power-on-effect-requires record-verdict-requires settle-requires returns)
+    tie.close
+    (tie.spec
+    unit-ok-requires
+    power-on-effect-requires
+    record-verdict-requires
+    settle-requires
+    returns)

@@ -11,6 +11,9 @@ use borrow.Author.Needs.{needs}
 use Rattle.unit.proofs.request_sense.Statement.{statement}
 use Rattle.unit.proofs.request_sense.Tie as tie
 
+unit-ok-requires : tie.Need-unit-ok-requires
+unit-ok-requires c κs = search needs
+
 sense-verdict-requires : tie.Need-sense-verdict-requires
 sense-verdict-requires c κs = search needs
 
@@ -26,7 +29,7 @@ slice-aggregate-copy-in c = search needs
 copy-in-requires : tie.Need-copy-in-requires
 copy-in-requires c κs =
     let v = c .before .before .before .before .before in
-    let full : length (now (v .before .before .args .buffer)) ≡ 18 = clear-length _ _ _ _ (sym (v .sense-verdict .ensures) ∙ c .before .before .before .enum-told .given .1) in
+    let full : length (now (v .before .before .before .args .buffer)) ≡ 18 = clear-length _ _ _ _ (sym (v .sense-verdict .ensures) ∙ c .before .before .before .enum-told .given .1) in
     omega arith
 
 sense-effect-requires : tie.Need-sense-effect-requires
@@ -48,24 +51,26 @@ returns : tie.Need-returns
 unfolding senseOutcome
 returns c =
     let v = c .before .before .before .before .before .before .before .before .before .before in
-    let start = v .before .before .args in
-    let clear = sym (v .sense-verdict .ensures) ∙ c .before .before .before .before .before .before .before .before .enum-told .given .1 in
+    let told = c .before .before .before .before .before .before .before in
+    let start = v .before .before .before .args in
+    let clear = rw (v .before .unit-ok .ensures) at (sym (v .sense-verdict .ensures) ∙ c .before .before .before .before .before .before .before .before .enum-told .given .1) in
     let full : length (now (start .buffer)) ≡ 18 = clear-length _ _ _ _ clear in (
       rw (clear, c .settle .ensures, c .before .sense-effect .ensures),
-      rw (clear, c .before .before .before .before .copy-in .ensures, copied-whole (now (start .buffer)) (c .before .before .before .before .before .before .before .told .result) (omega (arith, c .before .before .before .before .before .before .before .told .ok))) (c .before .before .before .before .before .before .before .told .ensures),
+      rw (clear, c .before .before .before .before .copy-in .ensures, copied-whole (now (start .buffer)) (told .told .result) (omega (arith, told .told .ok))) (told .told .ensures),
     )
 
 returns-2 : tie.Need-returns-2
 unfolding senseOutcome
 returns-2 c =
     let v = c .before .before .before .before in
-    let given = sym (v .sense-verdict .ensures) ∙ c .before .before .v .given .1 in
+    let given = rw (v .before .unit-ok .ensures) at (sym (v .sense-verdict .ensures) ∙ c .before .before .v .given .1) in
     (rw (given, c .settle2 .ensures), rw given)
 
 pub request-sense-spec : {M : Type 1} → statement M
 request-sense-spec =
     tie.close
     (tie.spec
+    unit-ok-requires
     sense-verdict-requires
     enum-told
     told-requires

@@ -1,11 +1,41 @@
--- The verdict and the effect are the definition's.
-use Rattle.unit.specs.Calls.{tickOutcome}
+-- Count and power move together unless a command is out, and then neither does.
+use mathlib.Core.Path.{_≡_, refl}
+use mathlib.Core.Bool.{Bool, true, false, cond}
+use Rattle.drive.specs.Records.{largest}
+use Rattle.drive.specs.Drives.{withIdle, entered, counted, timersAsk, fallen, ticked}
+use Rattle.unit.specs.Units.{isOut, withDrive}
+use Rattle.unit.specs.Calls.{tickEffect, tickOutcome}
+use Rattle.unit.specs.declared.Unit.{Unit}
 use borrow.Author.Needs.{needs}
 use Rattle.unit.proofs.tick.Statement.{statement}
 use Rattle.unit.proofs.tick.Tie as tie
 
-tick-effect-requires : tie.Need-tick-effect-requires
-tick-effect-requires c κs = search needs
+moved : (out : Bool) (u : Unit)
+    → withDrive
+    (entered
+    (cond out (u .drive .power)
+    (fallen (timersAsk (u .drive .records) (cond out (u .drive .idle .0) (counted largest (u .drive .idle .0)))) (u .drive .power)))
+    (withIdle (cond out (u .drive .idle .0) (counted largest (u .drive .idle .0))) (u .drive)))
+    u
+    ≡ cond out u (withDrive (ticked largest (u .drive)) u)
+unfolding ticked
+moved true u = refl
+moved false u = refl
+
+unit-ok-requires : tie.Need-unit-ok-requires
+unit-ok-requires c κs = search needs
+
+is-out-requires : tie.Need-is-out-requires
+is-out-requires c κs = search needs
+
+ticked-idle-requires : tie.Need-ticked-idle-requires
+ticked-idle-requires c κs = search needs
+
+ticked-power-requires : tie.Need-ticked-power-requires
+ticked-power-requires c κs = search needs
+
+move-to-requires : tie.Need-move-to-requires
+move-to-requires c κs = search needs
 
 record-verdict-requires : tie.Need-record-verdict-requires
 record-verdict-requires c κs = search needs
@@ -15,8 +45,17 @@ settle-requires c κs = search needs
 
 returns : tie.Need-returns
 unfolding tickOutcome
-returns c = rw (c .settle .ensures, c .before .record-verdict .ensures, c .before .before .tick-effect .ensures)
+returns c = rw (c .settle .ensures, c .before .record-verdict .ensures, c .before .before .move-to .ensures, c .before .before .before .ticked-power .ensures, c .before .before .before .before .ticked-idle .ensures, c .before .before .before .before .before .is-out .ensures, moved (isOut (c .before .before .before .before .before .before .before .before .before .args .u .out)) (c .before .before .before .before .before .before .before .before .before .args .u), c .before .before .before .before .before .before .before .before .unit-ok .ensures)
 
 pub tick-spec : {M : Type 1} → statement M
 tick-spec =
-    tie.close (tie.spec tick-effect-requires record-verdict-requires settle-requires returns)
+    tie.close
+    (tie.spec
+    unit-ok-requires
+    is-out-requires
+    ticked-idle-requires
+    ticked-power-requires
+    move-to-requires
+    record-verdict-requires
+    settle-requires
+    returns)

@@ -4,6 +4,9 @@ use borrow.Author.Needs.{needs}
 use Rattle.unit.proofs.write.Statement.{statement}
 use Rattle.unit.proofs.write.Tie as tie
 
+unit-ok-requires : tie.Need-unit-ok-requires
+unit-ok-requires c κs = search needs
+
 write-effect-requires : tie.Need-write-effect-requires
 write-effect-requires c κs = search needs
 
@@ -15,8 +18,14 @@ settle-requires c κs = search needs
 
 returns : tie.Need-returns
 unfolding writeOutcome
-returns c = rw (c .settle .ensures, c .before .medium-verdict .ensures, c .before .before .write-effect .ensures)
+returns c = rw (c .settle .ensures, c .before .medium-verdict .ensures, c .before .before .write-effect .ensures, c .before .before .before .unit-ok .ensures)
 
 pub write-spec : {M : Type 1} → statement M
 write-spec =
-    tie.close (tie.spec write-effect-requires medium-verdict-requires settle-requires returns)
+    tie.close
+    (tie.spec
+    unit-ok-requires
+    write-effect-requires
+    medium-verdict-requires
+    settle-requires
+    returns)

@@ -1,0 +1,19 @@
+-- With a command out the count stays.
+use borrow.Author.Needs.{needs}
+use Rattle.unit.proofs.ticked_idle.Statement.{statement}
+use Rattle.unit.proofs.ticked_idle.Tie as tie
+
+largest-timer-requires : tie.Need-largest-timer-requires
+largest-timer-requires c κs = search needs
+
+count-requires : tie.Need-count-requires
+count-requires c κs = search needs
+
+returns : tie.Need-returns
+returns c = search needs
+
+returns-2 : tie.Need-returns-2
+returns-2 c = rw (c .before .before .if1 .left, c .count .ensures, c .before .largest-timer .ensures)
+
+pub ticked-idle-spec : {M : Type 1} → statement M
+ticked-idle-spec = tie.close (tie.spec largest-timer-requires count-requires returns returns-2)
