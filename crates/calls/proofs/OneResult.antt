@@ -1,0 +1,98 @@
+-- Every public call has one possible result, record and buffer for each input: any two that its promise allows are equal. Each promise says
+-- what definition the result equals (the record is in it), and what a lent buffer holds at exit; two values that equal a third are equal.
+use mathlib.Core.Path.{_≡_, sym, _∙_}
+use mathlib.Core.List.{List}
+use Prim.Native.Nat.{ℕ}
+use denote.Ref.{now}
+use Rattle.unit.proofs.manufacture.Reads as manufacture
+use Rattle.unit.proofs.set_features.Reads as set-features
+use Rattle.unit.proofs.tick.Reads as tick
+use Rattle.unit.proofs.read.Reads as read
+use Rattle.unit.proofs.write.Reads as write
+use Rattle.unit.proofs.power_on.Reads as power-on
+use Rattle.unit.proofs.hard_reset.Reads as hard-reset
+use Rattle.unit.proofs.soft_reset.Reads as soft-reset
+use Rattle.bridge.proofs.start_stop_unit.Reads as start-stop-unit
+use Rattle.bridge.proofs.next_command.Reads as next-command
+use Rattle.bridge.proofs.answer.Reads as answer
+use Rattle.unit.proofs.request_sense.Reads as request-sense
+use Rattle.unit.proofs.log_page.Reads as log-page
+use Rattle.unit.proofs.number.Reads as number
+use Rattle.unit.proofs.sense_of.Reads as sense-of
+
+same : {A : Type 0} {x y z : A} → x ≡ z → y ≡ z → x ≡ y
+same p q = p ∙ sym q
+
+-- A function's contract, read as plain facts: `Asked` is its `requires`, of the arguments a; `Post` its `ensures`, of the arguments, the result and
+-- the parameters at exit. κs are its lifetimes.
+module _ {L : Type 0} {Args : L → Type 0} where
+  -- It has no `requires`: any arguments will do.
+  abbrev pub AsksNothing : ((κs : L) → Args κs → Type 0) → Type 0
+  AsksNothing Asked = (κs : L) (a : Args κs) → Asked κs a
+
+  module _ {Result Exit : L → Type 0} (Post : (κs : L) → Args κs → Result κs → Exit κs → Type 0) where
+    -- Any two results that the promise allows for the same arguments are equal.
+    abbrev pub OneResult : Type 0
+    OneResult = (κs : L) (a : Args κs) (x y : Result κs) (s t : Exit κs) → Post κs a x s → Post κs a y t → x ≡ y
+
+    -- And so are any two contents at exit of the buffer that it is lent.
+    abbrev pub OneBuffer : ((κs : L) → Exit κs → List ℕ) → Type 0
+    OneBuffer buffer =
+        (κs : L) (a : Args κs) (x y : Result κs) (s t : Exit κs) → Post κs a x s → Post κs a y t → buffer κs s ≡ buffer κs t
+
+-- ---- "Conditions and settings"
+
+pub one-manufacture : AsksNothing manufacture.Asked × OneResult manufacture.Post
+one-manufacture = (λ κs a. tt, λ κs a x y s t. same)
+
+-- ---- "EPC registers"
+
+pub one-set-features : AsksNothing set-features.Asked × OneResult set-features.Post
+one-set-features = (λ κs a. tt, λ κs a x y s t. same)
+
+-- ---- "Ticks, medium calls, resets"
+
+pub one-tick : AsksNothing tick.Asked × OneResult tick.Post
+one-tick = (λ κs a. tt, λ κs a x y s t. same)
+
+pub one-read : AsksNothing read.Asked × OneResult read.Post
+one-read = (λ κs a. tt, λ κs a x y s t. same)
+
+pub one-write : AsksNothing write.Asked × OneResult write.Post
+one-write = (λ κs a. tt, λ κs a x y s t. same)
+
+pub one-power-on : AsksNothing power-on.Asked × OneResult power-on.Post
+one-power-on = (λ κs a. tt, λ κs a x y s t. same)
+
+pub one-hard-reset : AsksNothing hard-reset.Asked × OneResult hard-reset.Post
+one-hard-reset = (λ κs a. tt, λ κs a x y s t. same)
+
+pub one-soft-reset : AsksNothing soft-reset.Asked × OneResult soft-reset.Post
+one-soft-reset = (λ κs a. tt, λ κs a x y s t. same)
+
+-- ---- "START STOP UNIT"
+
+pub one-start-stop-unit : AsksNothing start-stop-unit.Asked × OneResult start-stop-unit.Post
+one-start-stop-unit = (λ κs a. tt, λ κs a x y s t. same)
+
+pub one-next-command : AsksNothing next-command.Asked × OneResult next-command.Post
+one-next-command = (λ κs a. tt, λ κs a x y s t. same)
+
+pub one-answer : AsksNothing answer.Asked × OneResult answer.Post
+one-answer = (λ κs a. tt, λ κs a x y s t. same)
+
+-- ---- "Sense and log bytes"
+
+pub one-request-sense : AsksNothing request-sense.Asked × OneResult request-sense.Post × OneBuffer request-sense.Post (λ κs s. now (s .1 .1 .0))
+one-request-sense = (λ κs a. tt, λ κs a x y s t p q. same (p .0) (q .0), λ κs a x y s t p q. same (p .1) (q .1))
+
+pub one-log-page : AsksNothing log-page.Asked × OneResult log-page.Post × OneBuffer log-page.Post (λ κs s. now (s .1 .0))
+one-log-page = (λ κs a. tt, λ κs a x y s t p q. same (p .0) (q .0), λ κs a x y s t p q. same (p .1) (q .1))
+
+-- ---- "Numbers given back"
+
+pub one-number : AsksNothing number.Asked × OneResult number.Post
+one-number = (λ κs a. tt, λ κs a x y s t. same)
+
+pub one-sense-of : AsksNothing sense-of.Asked × OneResult sense-of.Post
+one-sense-of = (λ κs a. tt, λ κs a x y s t. same)
