@@ -1,3 +1,4 @@
+pub mod Examples
 pub mod Hosts
 pub mod Maker
 pub mod Numbers
