@@ -4,7 +4,6 @@ use mathlib.Core.List.{List, [], _∷_, _++_}
 use Prim.Native.Nat.{ℕ}
 use lib.Dec.{eqb, ltb}
 use lib.ListN.{length}
-use Rattle.drive.specs.declared.Record.{Record}
 use Rattle.unit.specs.Units.{slotOf, waits, isOutFor, withSlot, withOut, rested}
 use Rattle.unit.specs.Refusals.{Row, _gives_, lowest, afterRefusal}
 use Rattle.unit.specs.Calls.{notWellFormed, hostRows}
@@ -22,7 +21,6 @@ use Rattle.bridge.specs.declared.Wanted.the-variants.{Wants, Unlisted}
 use Rattle.bridge.specs.declared.Acceptance.{Acceptance}
 use Rattle.bridge.specs.declared.Acceptance.the-variants.{GoodDue, Pending, NotAccepted}
 use Rattle.bridge.specs.declared.StartStopped.{StartStopped}
-use Rattle.bridge.specs.declared.Next.{Next}
 use Rattle.bridge.specs.declared.Next.the-variants.{Send, NotSent}
 use Rattle.bridge.specs.declared.Asked.{Asked}
 use Rattle.bridge.specs.declared.Reply.{Reply}

@@ -1,21 +1,20 @@
 // START STOP UNIT for four hosts over one ATA drive (T10 07-485r3, 05-226r3): the CDB, acceptance, the command due, the answer, the end report.
-ghost use mathlib.Core.Path.{_≡_};
 ghost use mathlib.Core.Bool.{cond, not, _&&_};
 ghost use mathlib.Core.List.{[], _∷_};
+ghost use mathlib.Core.Path.{_≡_};
 ghost use lib.Dec.{eqb, ltb};
-ghost use lib.ListN.{length};
 ghost use Rattle.unit.specs.Refusals.{_gives_, lowest, orElse};
+ghost use Rattle.unit.specs.Units.{isOut, isOutFor};
 ghost use Rattle.unit.specs.declared.Refusal.the-variants.{BadLength, BadHost, BadRecord, CommandOut, HasNone, OwnWaiting, BadOpcode, BadField};
-ghost use Rattle.bridge.specs.Cdb;
 ghost use Rattle.unit.specs.declared.Stage.the-variants.{Straight, Flushing};
 ghost use Rattle.unit.specs.declared.Target.the-variants.{Stop, Start};
-ghost use Rattle.bridge.specs.declared.Wanted.the-variants.{Wants, Unlisted};
-ghost use Rattle.bridge.specs.Cdb.{byte, reservedOne, stopOrStart, asStart, idles, standbys, decided, wanted, stageFor, requestFor};
-ghost use Rattle.bridge.specs.Operations;
-ghost use Rattle.unit.specs.Units.{isOut, isOutFor};
-ghost use Rattle.bridge.specs.declared.Status.the-variants.{NoStatus};
-ghost use Rattle.bridge.specs.Operations.{registersOf, lastOf, dueAt, dueFrom, isFlush, oneMore, flushesOf, reportGood, reportFailed, taken, flushedWell, heldIf, failed, parkedIn, reached, isStop, succeeded, isGood, countsAsGood, flushAnswered, lastAnswered, answeredFor};
 ghost use Rattle.bridge.specs.Bridge.{startStopEffect, acceptedAs, startStopSettled, startStopOutcome, nextEffect, nextOn, nextOutcome, answerOn, answerOutcome};
+ghost use Rattle.bridge.specs.Cdb.{byte, reservedOne, stopOrStart, asStart, idles, standbys, decided, wanted, stageFor, requestFor};
+ghost use Rattle.bridge.specs.Cdb;
+ghost use Rattle.bridge.specs.Operations.{registersOf, lastOf, dueAt, dueFrom, isFlush, oneMore, flushesOf, reportGood, reportFailed, taken, flushedWell, heldIf, failed, parkedIn, reached, isStop, succeeded, isGood, countsAsGood, flushAnswered, lastAnswered, answeredFor};
+ghost use Rattle.bridge.specs.Operations;
+ghost use Rattle.bridge.specs.declared.Status.the-variants.{NoStatus};
+ghost use Rattle.bridge.specs.declared.Wanted.the-variants.{Wants, Unlisted};
 use drive::Cause;
 use drive::Condition;
 use drive::Power;
@@ -265,11 +264,11 @@ fn cdb_verdict(own: bool, opcode: u8, listed: bool) -> Verdict
 }
 
 // Numbers 1 to 4, then the CDB's.
-fn start_stop_verdict(length: usize, host: u32, ok: bool, out: Out, cdb: Verdict) -> Verdict
-    ensures { λ v. ⌜ v ≡ orElse (lowest ((not (eqb length 6) gives BadLength) ∷ (ltb 3 host gives BadHost) ∷ (not ok gives BadRecord) ∷ (isOut out gives CommandOut) ∷ [])) cdb ⌝ }
+fn start_stop_verdict(size: usize, host: u32, ok: bool, out: Out, cdb: Verdict) -> Verdict
+    ensures { λ v. ⌜ v ≡ orElse (lowest ((not (eqb size 6) gives BadLength) ∷ (ltb 3 host gives BadHost) ∷ (not ok gives BadRecord) ∷ (isOut out gives CommandOut) ∷ [])) cdb ⌝ }
 {
     let before = unit::or_else(
-        unit::given_if(length != 6, Refusal::BadLength),
+        unit::given_if(size != 6, Refusal::BadLength),
         unit::host_verdict(host, ok, out),
     );
     unit::or_else(before, cdb)
@@ -367,7 +366,7 @@ fn due_at(stage: Stage, unsaved: bool, last: Due) -> Due
 }
 
 // The command due from an operation.
-pub fn due_from(unsaved: bool, q: Request) -> Due
+fn due_from(unsaved: bool, q: Request) -> Due
     ensures { λ d. ⌜ d ≡ dueFrom unsaved q ⌝ }
 {
     let stage = q.stage;

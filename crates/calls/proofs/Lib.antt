@@ -3,6 +3,7 @@ pub mod Hosts
 pub mod Maker
 pub mod Numbers
 pub mod OneResult
+pub mod Out
 pub mod Progress
 pub mod Requests
 pub mod Steps

@@ -40,7 +40,8 @@ use Rattle.bridge.specs.declared.Progress.the-variants.{More, Ended}
 use Rattle.bridge.specs.declared.Replied.{Replied}
 use Rattle.calls.specs.Calls.{Call, setFeatures, tick, read, write, powerOn, hardReset, softReset, startStop, next, answer, requestSense, logPage, Said, plain, outcome, step, run, Event, history}
 use Rattle.calls.specs.Table.{verdictIn}
-use Rattle.calls.proofs.Steps.{clear-at, after-every}
+use Rattle.calls.proofs.Numbers.{clear-none}
+use Rattle.calls.proofs.Steps.{after-every}
 use Rattle.calls.proofs.Hosts.{other-slot}
 use Rattle.calls.proofs.WellFormed.{unit-fine, well-formed-kept, run-well-formed}
 
@@ -278,7 +279,7 @@ waiting-kept u c k q waiting = after-every (λ c v. movesOn k c ≡ false → sl
   where
     not-own : (host : ℕ) (cdb : List ℕ) → lowest (startStopRows u host cdb) ≡ Clear → k ≡ host → ⊥
     not-own host cdb clear e =
-        let none : isWaiting (slotOf (u .slots) host) ≡ false = clear-at (startStopRows u host cdb) 4 clear in
+        let none : isWaiting (slotOf (u .slots) host) ≡ false = clear-none (startStopRows u host cdb) clear 4 in
         true≢false (rw (← e, waiting) at none)
 
     apart : (host : ℕ) → eqb host k ≡ false → k ≡ host → ⊥

@@ -2,20 +2,17 @@
 -- Every fact that all calls share goes through here.
 use mathlib.Core.Path.{_≡_, refl}
 use mathlib.Core.Bool.{Bool, true, false, cond}
-use mathlib.Core.List.{List, [], _∷_}
-use Prim.Native.Nat.{ℕ, zero, suc}
-use native.Mathlib.Omega.{arith}
+use mathlib.Core.List.{List}
+use Prim.Native.Nat.{ℕ}
 use lib.Dec.{eqb}
-use lib.ListN.{getD}
 use Rattle.drive.specs.Records.{largest}
 use Rattle.drive.specs.Drives.{ticked}
 use Rattle.epc.specs.declared.Registers.{Registers}
 use Rattle.epc.proofs.Effects.{either}
 use Rattle.unit.specs.Units.{slotOf, isOut, withDrive, withSlot, withHeld, rested}
-use Rattle.unit.specs.Refusals.{Row, _gives_, numberOf, lowest, afterRefusal, settled}
+use Rattle.unit.specs.Refusals.{numberOf, lowest, afterRefusal, settled}
 use Rattle.unit.specs.Calls.{filled, epcRows, tickRows, mediumRows, resetRows, senseRows, logRows, epcEffect, tickEffect, readEffect, writeEffect, powerOnEffect, hardResetEffect, senseEffect, epcOutcome, tickOutcome, readOutcome, writeOutcome, powerOnOutcome, resetOutcome, senseOutcome, logOutcome}
 use Rattle.unit.specs.declared.Refusal.{Refusal}
-use Rattle.unit.specs.declared.Refusal.the-variants.{BadLength}
 use Rattle.unit.specs.declared.Verdict.{Verdict}
 use Rattle.unit.specs.declared.Verdict.the-variants.{Clear, Given}
 use Rattle.unit.specs.declared.Target.{Target}
@@ -35,23 +32,6 @@ use Rattle.bridge.specs.declared.Wanted.the-variants.{Wants, Unlisted}
 use Rattle.bridge.specs.declared.Reply.{Reply}
 use Rattle.bridge.specs.declared.Replied.{Replied}
 use Rattle.calls.specs.Calls.{Call, setFeatures, tick, read, write, powerOn, hardReset, softReset, startStop, next, answer, requestSense, logPage, outcome}
-
--- ---- a clear verdict
-
--- What stands past the last row: nothing applies there.
-abbrev pub noRow : Row
-noRow = false gives BadLength
-
-first-clear : (b : Bool) (r : Refusal) (v : Verdict) → cond b (Given r) v ≡ Clear → (b ≡ false) × (v ≡ Clear)
-first-clear true r v h = let no : _≡_ {A = ℕ} 0 1 = cc in absurd (omega arith)
-first-clear false r v h = (refl, h)
-
--- A verdict is clear only if no row applies.
-pub clear-at : (rows : List Row) (i : ℕ) → lowest rows ≡ Clear → getD rows i noRow .applies ≡ false
-unfolding lowest
-clear-at [] i h = refl
-clear-at (row ∷ rows) zero h = first-clear (row .applies) (row .gives) (lowest rows) h .0
-clear-at (row ∷ rows) (suc i) h = clear-at rows i (first-clear (row .applies) (row .gives) (lowest rows) h .1)
 
 -- ---- the effects
 

@@ -44,7 +44,8 @@ use Rattle.drive.specs.declared.Power.the-variants.{Active}
 use Rattle.bridge.specs.Operations.{lastOf, dueAt, isFlush, taken, entering}
 use Rattle.bridge.specs.Bridge.{startStopRows, nextRows}
 use Rattle.calls.specs.Calls.{Call, outcome, run}
-use Rattle.calls.proofs.Steps.{clear-at, after-every}
+use Rattle.calls.proofs.Numbers.{clear-none}
+use Rattle.calls.proofs.Steps.{after-every}
 use Rattle.calls.proofs.Requests.{listed-request}
 
 -- ---- a row and one place of it
@@ -202,7 +203,7 @@ module _ (u : Unit) (fine : UnitFine u) where
   fine-kept = after-every (λ c v. UnitFine v) u (record {
     none = λ c. fine;
     idle = λ c. idle-restarted u fine;
-    epc = λ q clear. drive-changed u fine _ (stays-well-formed q (u .drive) (fine .drive) (clear-at (epcRows u q) 2 clear)) (maker-stays q (u .drive));
+    epc = λ q clear. drive-changed u fine _ (stays-well-formed q (u .drive) (fine .drive) (clear-none (epcRows u q) clear 2)) (maker-stays q (u .drive));
     ticks = λ none. drive-changed u fine _ (ticked-fine largest (u .drive) (fine .drive)) (maker-ticked largest (u .drive));
     reads = λ host. medium-used u fine;
     writes = λ host. marks-changed _ (medium-used u fine) _ _;
@@ -212,9 +213,9 @@ module _ (u : Unit) (fine : UnitFine u) where
     resets-soft = hosts-cleared _ (idle-restarted u fine);
     accepts = λ host cdb t clear wants.
         slot-changed _ (idle-restarted u fine) host _
-        (listed-request (u .drive .records) cdb t (not-false _ (clear-at (startStopRows u host cdb) 6 clear)) wants)
-        (clear-at (startStopRows u host cdb) 3 clear);
-    sends = λ host clear. out-changed _ (idle-restarted u fine) (OutFor host) (not-false _ (clear-at (nextRows u host) 3 clear));
+        (listed-request (u .drive .records) cdb t (not-false _ (clear-none (startStopRows u host cdb) clear 6)) wants)
+        (clear-none (startStopRows u host cdb) clear 3);
+    sends = λ host clear. out-changed _ (idle-restarted u fine) (OutFor host) (not-false _ (clear-none (nextRows u host) clear 3));
     flushes = λ host reply q waits flush.
         let p = marks-changed _ active-fine (u .stopped) false in
         let ok = rw waits at (p .requests host) in

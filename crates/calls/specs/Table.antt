@@ -1,5 +1,5 @@
 -- Document 01, "Numbers given back": the table, row by row, over all calls. Each call's own rows are those of the table that name it.
-use mathlib.Core.Bool.{Bool, true, false, not, _&&_, _||_}
+use mathlib.Core.Bool.{Bool, true, false, not, _&&_}
 use mathlib.Core.List.{List, [], _∷_}
 use Prim.Native.Nat.{ℕ}
 use lib.Dec.{eqb, ltb}
@@ -7,19 +7,14 @@ use lib.ListN.{length}
 use Rattle.epc.specs.Epc.{aborts}
 use Rattle.unit.specs.Units.{waits, isOut, isOutFor, wellFormed}
 use Rattle.unit.specs.Refusals.{Row, _gives_}
-use Rattle.unit.specs.declared.Refusal.{Refusal}
 use Rattle.unit.specs.declared.Refusal.the-variants.{BadLength, BadHost, BadRecord, CommandOut, HasNone, OwnWaiting, BadOpcode, BadField, IsStopped, Aborted}
 use Rattle.unit.specs.declared.Verdict.{Verdict}
 use Rattle.unit.specs.declared.Verdict.the-variants.{Clear, Given}
-use Rattle.unit.specs.declared.Answer.{Answer}
 use Rattle.unit.specs.declared.Answer.the-variants.{Done, Refused}
 use Rattle.unit.specs.declared.Unit.{Unit}
 use Rattle.bridge.specs.Cdb.{byte, isListed}
-use Rattle.bridge.specs.declared.Acceptance.{Acceptance}
 use Rattle.bridge.specs.declared.Acceptance.the-variants.{GoodDue, Pending, NotAccepted}
-use Rattle.bridge.specs.declared.Next.{Next}
 use Rattle.bridge.specs.declared.Next.the-variants.{Send, NotSent}
-use Rattle.bridge.specs.declared.Progress.{Progress}
 use Rattle.bridge.specs.declared.Progress.the-variants.{More, Ended, NotTaken}
 use Rattle.calls.specs.Calls.{Call, setFeatures, tick, read, write, powerOn, hardReset, softReset, startStop, next, answer, requestSense, logPage, Said, plain, accepted, sent, progressed}
 

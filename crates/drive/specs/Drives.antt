@@ -13,7 +13,7 @@ use Rattle.drive.specs.declared.Cause.the-variants.{Timer}
 use Rattle.drive.specs.declared.Drive.{Drive}
 use Rattle.drive.specs.declared.Made.{Made}
 
--- ---- the builders: no other literal of a record or a drive
+-- ---- the builders: every changed record or drive is made by one of these
 
 -- A record with another saved and another current setting.
 abbrev pub withSettings : Setting → Setting → Record → Record
@@ -76,7 +76,7 @@ ticked top d =
 
 -- ---- the medium, power-on, manufacture
 
--- "A read or write makes the unit Active, idle count 0".
+-- "A read or write makes the unit Active, idle count 0"; power-on leaves the drive so too.
 unfoldable pub used : Drive → Drive
 used d = entered Active (restarted d)
 

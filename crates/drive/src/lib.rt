@@ -1,13 +1,13 @@
 // The power conditions of one drive (T13 e08120r9), without registers: settings, timers and the condition the drive is in.
-ghost use mathlib.Core.Path.{_≡_};
 ghost use mathlib.Core.Bool.{cond, not, _||_};
-ghost use lib.Dec.{eqb};
+ghost use mathlib.Core.Path.{_≡_};
 ghost use Prim.Native.Nat.{_<_, _≤_};
+ghost use lib.Dec.{eqb};
+ghost use Rattle.rows.specs.Rows.{mapAt};
 ghost use Rattle.drive.specs.Conditions.{placeOf, conditionAt, depth};
-ghost use Rattle.drive.specs.Records.{largest, numbersWellFormed, settingZero, othersZero, recordWellFormed, recordsWellFormed, driveWellFormed};
 ghost use Rattle.drive.specs.Drives.{withSettings, withRecords, withIdle, entered, restarted, counted, ranOut, timersAsk, byTimer, fallen, used, savedRestored, poweredOn, madeRecord};
 ghost use Rattle.drive.specs.Drives;
-ghost use Rattle.rows.specs.Rows.{mapAt};
+ghost use Rattle.drive.specs.Records.{largest, numbersWellFormed, settingZero, othersZero, recordWellFormed, recordsWellFormed, driveWellFormed};
 
 // Timers and the idle count: tenths of a second. 32 bits, so that "above 65,535" can be said and refused.
 pub struct Tenths(pub u32);
@@ -86,7 +86,7 @@ pub fn place_of(c: Condition) -> usize
     }
 }
 
-pub fn condition_at(place: usize) -> Condition
+fn condition_at(place: usize) -> Condition
     requires { ⌜ place < 5 ⌝ }
     ensures { λ r. ⌜ r ≡ conditionAt place ⌝ }
 {

@@ -22,7 +22,7 @@ use Rattle.epc.specs.declared.Named.the-variants.{One, Every, Unlisted}
 
 -- ---- the registers
 
--- "LBA bits 3:0 are the subcommand"; "Sub: 0h restore, 1h go to, 2h timer, 3h state".
+-- "LBA bits 3:0 are the subcommand": "0h restore", "1h go to", "2h timer", "3h state".
 abbrev pub subOf : ℕ → Sub
 subOf lba =
     cond (eqb (bits 3 0 lba) 0) Restore
@@ -43,7 +43,8 @@ save lba = bit 4 lba
 abbrev pub timerIn : ℕ → ℕ
 timerIn lba = bits 23 8 lba
 
--- "Bits not named are reserved": LBA comes as 32 bits, and those above 28 are named by no subcommand.
+-- "Bits not named are reserved": LBA comes as 32 bits, of which no subcommand names one above 23. An unknown
+-- subcommand names none; it aborts before its bits are looked at.
 abbrev pub reservedOne : Sub → ℕ → Bool
 reservedOne Restore lba = someOne 5 5 lba || someOne 31 7 lba
 reservedOne GoTo lba = someOne 31 4 lba

@@ -1,4 +1,5 @@
--- Names for what the inner functions promise: `aborts` of Epc in the groups in which the code decides it. Nothing outside this crate cites them.
+-- Names for what inner functions promise: the clauses of `aborts` in the groups in which the code decides them, and the change at one place.
+-- Nothing outside this crate cites them.
 use mathlib.Core.Bool.{Bool, not, _&&_, _||_, cond}
 use Prim.Native.Nat.{ℕ}
 use lib.Dec.{eqb}

@@ -1,11 +1,11 @@
 // The registers of SET FEATURES EPC (T13 e08120r9): what they select, when they abort, what they change.
-ghost use mathlib.Core.Path.{_≡_};
 ghost use mathlib.Core.Bool.{cond};
+ghost use mathlib.Core.Path.{_≡_};
 ghost use Rattle.rows.specs.Rows.{someAt, mapAt};
-ghost use Rattle.epc.specs.Epc;
-ghost use Rattle.epc.specs.Epc.{subOf, named, reservedOne, isUnknown, isGoTo, isUnlisted, isEvery, countCode, restoredFrom, savedToo, timerSet, flagSet, changed, changedAt, goneTo, performed};
-ghost use Rattle.epc.specs.Inner;
 ghost use Rattle.drive.specs.Drives.{withSettings};
+ghost use Rattle.epc.specs.Epc.{subOf, named, reservedOne, isUnknown, isGoTo, isUnlisted, isEvery, countCode, restoredFrom, savedToo, timerSet, flagSet, changed, changedAt, goneTo, performed};
+ghost use Rattle.epc.specs.Epc;
+ghost use Rattle.epc.specs.Inner;
 use drive::Cause;
 use drive::Condition;
 use drive::Drive;
@@ -51,7 +51,7 @@ fn sub_of(lba: u32) -> Sub
 }
 
 // The listed Count codes and the ranges of unlisted ones.
-pub fn named_by(count: u8) -> Named
+fn named_by(count: u8) -> Named
     ensures { λ r. ⌜ r ≡ named count ⌝ }
 {
     match count {

@@ -4,9 +4,9 @@ use mathlib.Core.List.{List, [], _∷_, _++_}
 use Prim.Native.Nat.{ℕ, zero, suc, _+_, _-_, _*_, _<_, _≤_}
 use native.Mathlib.Nat.{zero-add, not-suc-le-zero, le-of-suc-le-suc}
 use native.Mathlib.Omega.{arith}
-use lib.Dec.{lit<}
 use lib.ListN.{length, getD, replicate, getD-replicate, List·getD-append}
 use lib.Seq.{getD-append-add}
+use Rattle.drive.proofs.Conditions.{place-below}
 use Rattle.drive.specs.declared.Condition.{Condition}
 use Rattle.drive.specs.declared.Condition.the-variants.{IdleA, IdleB, IdleC, StandbyY, StandbyZ}
 use Rattle.drive.specs.declared.Record.{Record}
@@ -21,13 +21,6 @@ place-words IdleB = refl
 place-words IdleC = refl
 place-words StandbyY = refl
 place-words StandbyZ = refl
-
-place-below : (c : Condition) → placeOf c < 5
-place-below IdleA = lit< tt
-place-below IdleB = lit< tt
-place-below IdleC = lit< tt
-place-below StandbyY = lit< tt
-place-below StandbyZ = lit< tt
 
 descriptor-at : (rs : List Record) (place k : ℕ) (z : Record) (d : ℕ) → place < length rs → k < 16
     → getD (descriptors rs) (16 * place + k) d ≡ getD (namedWords (getD rs place z) ++ replicate 8 0) k d

@@ -1,10 +1,10 @@
 // The bytes of sense data and of the Power Conditions log page: from key and codes, from five records. No unit is needed.
-ghost use mathlib.Core.Path.{_≡_};
 ghost use mathlib.Core.Bool.{cond};
 ghost use mathlib.Core.List.{[], _∷_};
+ghost use mathlib.Core.Path.{_≡_};
 ghost use Prim.Native.Nat.{_+_, _/_, _%_, _≤_};
-ghost use Rattle.pages.specs.Senses.{senseBytes, byCause, ascqOf, powerSense};
 ghost use Rattle.pages.specs.Logs.{bytesOf, flagAt, namedWords, logPage};
+ghost use Rattle.pages.specs.Senses.{senseBytes, byCause, ascqOf, powerSense};
 use drive::Cause;
 use drive::Condition;
 use drive::Power;

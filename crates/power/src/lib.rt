@@ -1,5 +1,5 @@
 // The face of the layer: every public call and type, in the order of document 01. A public call is one that is named here.
-// Each takes the unit's record by value and hands it back; none has a `requires`.
+// A call that changes the unit takes its record by value and hands it back; none has a `requires`.
 
 // Conditions and settings.
 pub use drive::Cause;

@@ -1,5 +1,5 @@
 -- A copy over the whole of a buffer of the same length leaves just what was copied.
-use mathlib.Core.Path.{_≡_, refl}
+use mathlib.Core.Path.{_≡_}
 use mathlib.Core.List.{List, append-nil}
 use Prim.Native.Nat.{ℕ}
 use native.Mathlib.Nat.{zero-add}

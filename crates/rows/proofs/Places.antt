@@ -1,12 +1,12 @@
 -- What a fold says of each place, and the place's word taken together: every fact on the five conditions or the four hosts goes through here.
 use mathlib.Core.Path.{_≡_, refl, ap, _∙_}
-use mathlib.Core.Bool.{Bool, true, false, _&&_, _||_}
+use mathlib.Core.Bool.{Bool, true, false, _&&_}
 use mathlib.Core.List.{List, [], _∷_}
-use Prim.Native.Nat.{ℕ, zero, suc, _+_, _<_, _≤_}
+use Prim.Native.Nat.{ℕ, zero, suc, _+_, _<_}
 use native.Mathlib.Nat.{zero-add, add-zero, suc-add, add-suc, not-suc-le-zero, le-of-suc-le-suc}
 use native.Mathlib.Omega.{arith}
-use lib.ListN.{length, getD, set}
-use Rattle.rows.specs.Rows.{everyAt, someAt, foldAt, mapAt}
+use lib.ListN.{length, getD}
+use Rattle.rows.specs.Rows.{everyAt, mapAt}
 
 -- ---- conjunctions of tests
 

@@ -1,5 +1,5 @@
 -- The whole outcome of each call that needs no START STOP UNIT: document 01, "EPC registers", "Ticks, medium calls, resets", "Sense and log bytes".
-use mathlib.Core.Bool.{Bool, true, false, not, cond}
+use mathlib.Core.Bool.{true, false, not, cond}
 use mathlib.Core.List.{List, [], _∷_, _++_}
 use Prim.Native.Nat.{ℕ}
 use lib.Dec.{eqb, ltb}
@@ -42,7 +42,7 @@ hostRows u host = (ltb 3 host gives BadHost) ∷ notWellFormed u ∷ commandOut 
 
 -- ---- manufacture
 
--- A unit with "current = saved = default, Active, idle count 0, nothing waiting".
+-- "At manufacture current, saved and default agree": Active, idle count 0, no mark, nothing waiting, held or out.
 abbrev pub madeUnit : List Made → Unit
 madeUnit ms = unitOf (made ms) false false (replicate 4 emptySlot) (replicate 4 noneHeld) NoneOut
 

@@ -10,7 +10,6 @@ use Rattle.unit.specs.declared.SenseDue.{SenseDue}
 use Rattle.unit.specs.declared.SenseDue.the-variants.{NoSense, WithSense}
 use Rattle.unit.specs.declared.Verdict.{Verdict}
 use Rattle.unit.specs.declared.Verdict.the-variants.{Clear, Given}
-use Rattle.unit.specs.declared.Answer.{Answer}
 use Rattle.unit.specs.declared.Answer.the-variants.{Done, Refused}
 use Rattle.unit.specs.declared.Called.{Called}
 use Rattle.unit.specs.declared.Unit.{Unit}

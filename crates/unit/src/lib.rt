@@ -1,15 +1,14 @@
 // The unit's record and the calls on it that need no START STOP UNIT.
-ghost use mathlib.Core.Path.{_≡_};
-ghost use Prim.Native.Nat.{_<_};
-ghost use lib.ListN.{set};
-ghost use Rattle.unit.specs.Units.{slotOf, isWaiting, waits, heldOf, isOut, isOutFor, supportedIn, requestWellFormed, slotWellFormed, hostsWellFormed, outWellFormed, wellFormed, withDrive, withMarks, withSlot, withHeld, withOut, withoutHosts, rested};
-ghost use Rattle.unit.specs.Refusals.{numberOf, senseOf, _gives_, lowest, orElse, afterRefusal, settled};
-ghost use Rattle.unit.specs.Calls.{epcRows, epcEffect, epcOutcome, failureSense, toldBytes, senseEffect, senseOutcome, logRows, logOutcome, notWellFormed, hostRows, madeUnit, blank, manufactureOutcome, tickOutcome, mediumRows, readEffect, readOutcome, writeEffect, writeOutcome, powerOnEffect, powerOnOutcome, hardResetEffect, resetOutcome};
-ghost use mathlib.Core.List.{[], _∷_};
 ghost use mathlib.Core.Bool.{not, cond};
+ghost use mathlib.Core.List.{[], _∷_};
+ghost use mathlib.Core.Path.{_≡_};
 ghost use lib.Dec.{eqb, ltb};
-ghost use Rattle.drive.specs.Records.{largest};
+ghost use lib.ListN.{set};
 ghost use Rattle.drive.specs.Drives.{withIdle, entered, counted, timersAsk, fallen};
+ghost use Rattle.drive.specs.Records.{largest};
+ghost use Rattle.unit.specs.Calls.{epcEffect, epcOutcome, failureSense, toldBytes, senseEffect, senseOutcome, logOutcome, madeUnit, blank, manufactureOutcome, tickOutcome, readEffect, readOutcome, writeEffect, writeOutcome, powerOnEffect, powerOnOutcome, hardResetEffect, resetOutcome};
+ghost use Rattle.unit.specs.Refusals.{numberOf, senseOf, _gives_, lowest, orElse, afterRefusal, settled};
+ghost use Rattle.unit.specs.Units.{slotOf, isWaiting, heldOf, isOut, supportedIn, requestWellFormed, slotWellFormed, hostsWellFormed, outWellFormed, wellFormed, withDrive, withMarks, withSlot, withHeld, withOut, withoutHosts, rested};
 ghost use Rattle.unit.specs.declared.Refusal.the-variants.{BadLength, BadHost, BadRecord, CommandOut, IsStopped, Aborted};
 ghost use Rattle.unit.specs.declared.SenseDue.the-variants.{WithSense};
 use drive::Condition;
@@ -179,7 +178,7 @@ pub fn is_waiting(s: Slot) -> bool
     }
 }
 
-pub fn is_out(o: Out) -> bool
+fn is_out(o: Out) -> bool
     ensures { λ r. ⌜ r ≡ isOut o ⌝ }
 {
     match o {
@@ -566,7 +565,7 @@ fn made_unit(made: [Made; 5]) -> Unit
 }
 
 // A unit that supports nothing: what stands beside manufacture's refusal.
-pub fn blank_unit() -> Unit
+fn blank_unit() -> Unit
     ensures { λ u. ⌜ u ≡ blank ⌝ }
 {
     let nothing = Made {
@@ -675,11 +674,11 @@ fn sense_effect(u: Unit, host: u32) -> Unit
     with_held(rest(u), host, Held::Nothing)
 }
 
-fn sense_verdict(length: usize, host: u32, ok: bool, out: Out) -> Verdict
-    ensures { λ v. ⌜ v ≡ lowest ((not (eqb length 18) gives BadLength) ∷ (ltb 3 host gives BadHost) ∷ (not ok gives BadRecord) ∷ (isOut out gives CommandOut) ∷ []) ⌝ }
+fn sense_verdict(size: usize, host: u32, ok: bool, out: Out) -> Verdict
+    ensures { λ v. ⌜ v ≡ lowest ((not (eqb size 18) gives BadLength) ∷ (ltb 3 host gives BadHost) ∷ (not ok gives BadRecord) ∷ (isOut out gives CommandOut) ∷ []) ⌝ }
 {
     or_else(
-        given_if(!(length == 18), Refusal::BadLength),
+        given_if(!(size == 18), Refusal::BadLength),
         host_verdict(host, ok, out),
     )
 }
@@ -701,11 +700,11 @@ pub fn request_sense(u: Unit, host: u32, buffer: &mut [u8]) -> Called
     }
 }
 
-fn log_verdict(length: usize, ok: bool) -> Verdict
-    ensures { λ v. ⌜ v ≡ lowest ((not (eqb length 512) gives BadLength) ∷ (not ok gives BadRecord) ∷ []) ⌝ }
+fn log_verdict(size: usize, ok: bool) -> Verdict
+    ensures { λ v. ⌜ v ≡ lowest ((not (eqb size 512) gives BadLength) ∷ (not ok gives BadRecord) ∷ []) ⌝ }
 {
     or_else(
-        given_if(!(length == 512), Refusal::BadLength),
+        given_if(!(size == 512), Refusal::BadLength),
         record_verdict(ok),
     )
 }

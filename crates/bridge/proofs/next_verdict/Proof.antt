@@ -1,5 +1,4 @@
 -- The host's rows, then its own slot's.
-use mathlib.Core.List.{[], _∷_}
 use Rattle.unit.proofs.Verdicts.{lowest-append}
 use borrow.Author.Needs.{needs}
 use Rattle.bridge.proofs.next_verdict.Statement.{statement}

@@ -22,7 +22,7 @@ or-else-requires-2 : tie.Need-or-else-requires-2
 or-else-requires-2 c κs = search needs
 
 returns : tie.Need-returns
-returns c = rw (c .or-else2 .ensures, c .before .or-else .ensures, c .before .before .host-verdict .ensures, c .before .before .before .given-if .ensures, lowest-append ((not (eqb (c .before .before .before .before .args .length) 6) gives BadLength) ∷ []) _)
+returns c = rw (c .or-else2 .ensures, c .before .or-else .ensures, c .before .before .host-verdict .ensures, c .before .before .before .given-if .ensures, lowest-append ((not (eqb (c .before .before .before .before .args .size) 6) gives BadLength) ∷ []) _)
 
 pub start-stop-verdict-spec : {M : Type 1} → statement M
 start-stop-verdict-spec =

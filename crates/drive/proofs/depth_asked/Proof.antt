@@ -1,10 +1,9 @@
 -- After i turns, the power at the depth found is what the first i conditions ask, and the rest go on from it.
-use mathlib.Core.Path.{_≡_, refl, sym, ap, _∙_}
+use mathlib.Core.Path.{_≡_, refl, sym, _∙_}
 use mathlib.Core.Bool.{Bool, true, false, cond}
-use Prim.Native.Nat.{ℕ, _+_, _≤_, _<_, _-_}
+use Prim.Native.Nat.{ℕ, _+_, _≤_, _-_}
 use native.Mathlib.Omega.{arith}
 use lib.ListN.{drop}
-use lib.Dec.{eqb}
 use Rattle.rows.specs.Rows.{foldAt}
 use Rattle.rows.proofs.Folds.{fold-more, fold-end}
 use Rattle.drive.specs.Drives.{heard, timersAsk, byTimer}

@@ -1,8 +1,7 @@
 -- After i turns the first i records are made.
 use mathlib.Core.Path.{_≡_, refl, sym, _∙_}
-use Prim.Native.Nat.{ℕ, _≤_, _-_}
+use Prim.Native.Nat.{_≤_, _-_}
 use native.Mathlib.Omega.{arith}
-use lib.ListN.{length}
 use Rattle.rows.proofs.Written.{done, done-more, done-all}
 use Rattle.drive.specs.Drives.{madeRecord}
 use Rattle.drive.proofs.made_records.Statement.{statement}

@@ -4,7 +4,6 @@ use mathlib.Core.Bool.{_&&_}
 use Prim.Native.Nat.{_≤_, _-_}
 use native.Mathlib.Omega.{arith}
 use lib.ListN.{drop}
-use lib.Dec.{eqb}
 use Rattle.rows.specs.Rows.{everyAt}
 use Rattle.rows.proofs.Folds.{every-more, every-end}
 use Rattle.drive.specs.Records.{recordWellFormed, recordsWellFormed}

@@ -1,6 +1,6 @@
 -- After i turns the first i records have their saved setting as the current one.
-use mathlib.Core.Path.{_≡_, refl, sym, ap, _∙_}
-use Prim.Native.Nat.{ℕ, _≤_, _-_}
+use mathlib.Core.Path.{_≡_, refl, _∙_}
+use Prim.Native.Nat.{_≤_, _-_}
 use native.Mathlib.Omega.{arith}
 use Rattle.rows.proofs.Written.{done, done-more, done-all}
 use Rattle.drive.specs.Drives.{savedRestored}

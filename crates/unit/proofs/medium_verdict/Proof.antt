@@ -1,5 +1,4 @@
 -- The host's rows, then the stopped mark's.
-use mathlib.Core.List.{[], _∷_}
 use Rattle.unit.proofs.Verdicts.{lowest-append}
 use borrow.Author.Needs.{needs}
 use Rattle.unit.proofs.medium_verdict.Statement.{statement}

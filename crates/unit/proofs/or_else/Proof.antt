@@ -1,5 +1,4 @@
 -- By the first verdict.
-use mathlib.Core.Path.{refl}
 use borrow.Author.Needs.{needs}
 use Rattle.unit.proofs.or_else.Statement.{statement}
 use Rattle.unit.proofs.or_else.Tie as tie

@@ -1,5 +1,4 @@
 -- The length's row, then the host's.
-use mathlib.Core.List.{[], _∷_}
 use Rattle.unit.proofs.Verdicts.{lowest-append}
 use borrow.Author.Needs.{needs}
 use Rattle.unit.proofs.sense_verdict.Statement.{statement}

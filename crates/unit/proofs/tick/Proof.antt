@@ -4,7 +4,7 @@ use mathlib.Core.Bool.{Bool, true, false, cond}
 use Rattle.drive.specs.Records.{largest}
 use Rattle.drive.specs.Drives.{withIdle, entered, counted, timersAsk, fallen, ticked}
 use Rattle.unit.specs.Units.{isOut, withDrive}
-use Rattle.unit.specs.Calls.{tickEffect, tickOutcome}
+use Rattle.unit.specs.Calls.{tickOutcome}
 use Rattle.unit.specs.declared.Unit.{Unit}
 use borrow.Author.Needs.{needs}
 use Rattle.unit.proofs.tick.Statement.{statement}
