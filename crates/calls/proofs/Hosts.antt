@@ -1,9 +1,9 @@
 -- Whose slot and held sense a call may change. A value set at one place of a row leaves every other place as it was.
 use mathlib.Core.Path.{_≡_, refl, ap}
 use mathlib.Core.List.{List}
-use Prim.Native.Nat.{ℕ}
-use lib.ListN.{set}
-use lib.Seq.{getD-set-other}
+use Prim.Native.Nat.{ℕ, _<_}
+use lib.ListN.{length, set}
+use lib.Seq.{getD-set-same, getD-set-other}
 use Rattle.unit.specs.Units.{emptySlot, noneHeld, slotOf, heldOf}
 use Rattle.unit.specs.declared.Slot.{Slot}
 use Rattle.unit.specs.declared.HostSlot.{HostSlot}
@@ -43,6 +43,9 @@ abbrev pub Spared : Reach → Unit → Unit → Type 0
 Spared nobody u v = (v .slots ≡ u .slots) × (v .held ≡ u .held)
 Spared (only host) u v = (k : ℕ) → (k ≡ host → ⊥) → SameFor k u v
 Spared everybody u v = Prim.Unit {0}
+
+pub own-slot : (slots : List HostSlot) (host : ℕ) (s : Slot) → host < length slots → slotOf (set slots host (record { slot = s })) host ≡ s
+own-slot slots host s h = ap (λ (x : HostSlot). x .slot) (getD-set-same slots host (record { slot = s }) emptySlot h)
 
 module _ (host k : ℕ) (other : k ≡ host → ⊥) where
   pub other-slot : (slots : List HostSlot) (s : Slot) → slotOf (set slots host (record { slot = s })) k ≡ slotOf slots k

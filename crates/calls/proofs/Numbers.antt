@@ -39,7 +39,7 @@ use Rattle.bridge.specs.declared.Reply.{Reply}
 use Rattle.bridge.specs.declared.Replied.{Replied}
 use Rattle.calls.specs.Calls.{Call, setFeatures, tick, read, write, powerOn, hardReset, softReset, startStop, next, answer, requestSense, logPage, plain, accepted, sent, progressed, outcome, step}
 use Rattle.calls.specs.Table.{table, verdictIn}
-use Rattle.calls.specs.Numbers.{rowAt, FirstGives, NoneApplies, rowOf, appliesTo, LowestNumber, ownRows, effect, lent, written}
+use Rattle.calls.specs.Numbers.{rowAt, FirstGives, NoneApplies, rowOf, appliesTo, LowestNumber, Numbers, ownRows, effect, lent, written}
 
 -- ---- the lowest of any rows
 
@@ -275,6 +275,10 @@ module _ (u : Unit) (c : Call) where
   pub accepted-exactly : verdictIn (outcome u c .said) ≡ Clear ↔ ((q : Refusal) → appliesTo u c q ≡ false)
   accepted-exactly =
       (λ h q. clear-none (table u c) (sym (told u c) ∙ h) (numberOf q - 1), none-accepted _ refl)
+
+-- The layer gives the numbers of the table.
+pub numbers-given : Numbers outcome
+numbers-given = refused-exactly
 
 -- "3: record not well formed": an accepted call stood on a well-formed record.
 pub accepted-well-formed : (u : Unit) (c : Call) → verdictIn (outcome u c .said) ≡ Clear → wellFormed u ≡ true

@@ -8,7 +8,6 @@ use Prim.Native.Nat.{ℕ, suc, _+_, _<_, _≤_}
 use native.Mathlib.Omega.{arith}
 use lib.Dec.{eqb, ltb, eqb·suc-zero}
 use lib.ListN.{length, set, List·getD-eq-default}
-use lib.Seq.{getD-set-same}
 use borrow.Author.Tests.{ltb-true, ltb-false, le-ltb, eqb-false, eq-eqb, ne-eqb, not-true}
 use Rattle.rows.specs.Rows.{everyAt}
 use Rattle.rows.proofs.Places.{and-left, and-right}
@@ -42,7 +41,7 @@ use Rattle.calls.specs.Calls.{Call, setFeatures, tick, read, write, powe
 use Rattle.calls.specs.Table.{verdictIn}
 use Rattle.calls.proofs.Numbers.{clear-none}
 use Rattle.calls.proofs.Steps.{after-every}
-use Rattle.calls.proofs.Hosts.{other-slot}
+use Rattle.calls.proofs.Hosts.{own-slot, other-slot}
 use Rattle.calls.proofs.WellFormed.{unit-fine, well-formed-kept, run-well-formed}
 
 -- ---- asking for the next command
@@ -70,7 +69,7 @@ module _ (u : Unit) (fine : wellFormed u ≡ true) (host : ℕ) (q : Request) (w
           let no : _≡_ {A = ℕ} 0 1 = cc in
           absurd (omega arith)
 
-  next-clear : u .out ≡ NoneOut → lowest (nextRows u host) ≡ Clear
+  pub next-clear : u .out ≡ NoneOut → lowest (nextRows u host) ≡ Clear
   unfolding lowest
   next-clear none = rw (le-ltb 3 host (omega (arith, host-below)), fine, none, waiting)
 
@@ -84,7 +83,7 @@ module _ (u : Unit) (fine : wellFormed u ≡ true) (host : ℕ) (q : Request) (w
     unsaved = rw (next-clear none, waiting);
   }
 
-  answer-clear : u .out ≡ OutFor host → lowest (answerRows u host) ≡ Clear
+  pub answer-clear : u .out ≡ OutFor host → lowest (answerRows u host) ≡ Clear
   unfolding lowest
   answer-clear out = rw (le-ltb 3 host (omega (arith, host-below)), fine, out, eq-eqb host host refl)
 
@@ -108,28 +107,26 @@ pub record Counted (host : ℕ) (q : Request) (r : Replied) : Type 0 where
   pub unsaved : r .unit .unsaved ≡ false
   pub out : r .unit .out ≡ NoneOut
 
-slot-set : (slots : List HostSlot) (host : ℕ) (s : Slot) → host < length slots → slotOf (set slots host (record { slot = s })) host ≡ s
-slot-set slots host s h = ap (λ (x : HostSlot). x .slot) (getD-set-same slots host (record { slot = s }) emptySlot h)
-
 module _ (u : Unit) (host : ℕ) (q : Request) (inside : host < length (u .slots)) where
   failed-over : (f : Failure) (n : ℕ) → Over host (failed u host q f n)
   failed-over f n = record {
     report = _;
     answer = refl;
-    slot = either (λ (v : Unit). slotOf (v .slots) host ≡ Empty) (q .immed) _ _ (slot-set (u .slots) host Empty inside) (slot-set (u .slots) host Empty inside);
+    slot = either (λ (v : Unit). slotOf (v .slots) host ≡ Empty) (q .immed) _ _ (own-slot (u .slots) host Empty inside) (own-slot (u .slots) host Empty inside);
     out = either (λ (v : Unit). v .out ≡ NoneOut) (q .immed) _ _ refl refl;
   }
 
   succeeded-over : Over host (succeeded u host q)
-  succeeded-over = record { report = _; answer = refl; slot = slot-set (u .slots) host Empty inside; out = refl }
+  succeeded-over = record { report = _; answer = refl; slot = own-slot (u .slots) host Empty inside; out = refl }
 
   last-over : (reply : Reply) → Over host (lastAnswered u host q reply)
   last-over reply = either (Over host) (countsAsGood (q .target) reply) _ _ succeeded-over (failed-over CommandSequence (flushesOf (q .stage)))
 
   flushed-counted : Counted host q (flushedWell u host q)
-  flushed-counted = record { answer = refl; slot = slot-set (u .slots) host _ inside; unsaved = refl; out = refl }
+  flushed-counted = record { answer = refl; slot = own-slot (u .slots) host _ inside; unsaved = refl; out = refl }
 
-last-no-flush : (t : Target) → isFlush (lastOf t) ≡ false
+-- The last command is no flush.
+pub last-no-flush : (t : Target) → isFlush (lastOf t) ≡ false
 last-no-flush Stop = refl
 last-no-flush Start = refl
 last-no-flush (GoTo c) = refl
@@ -167,16 +164,17 @@ straight-due unsaved q e = rw e
 pub flushed-due : (unsaved : Bool) (q : Request) (n : ℕ) → unsaved ≡ false → q .stage ≡ Flushing (suc n) → dueFrom unsaved q ≡ lastOf (q .target)
 flushed-due unsaved q n saved e = rw (saved, e, eqb·suc-zero n)
 
--- So it does after a flush that was counted.
-pub counted-due : (unsaved : Bool) (q : Request) → unsaved ≡ false → dueFrom unsaved (flushCounted q) ≡ lastOf (q .target)
-counted-due unsaved q saved = rw (saved, some (flushesOf (q .stage)))
+-- A flush that is counted leaves a count that is not 0.
+pub one-more-some : (n : ℕ) → eqb (oneMore n) 0 ≡ false
+one-more-some n = on (ltb n 255) refl
   where
-    some : (n : ℕ) → eqb (oneMore n) 0 ≡ false
-    some n = on (ltb n 255) refl
-      where
-        on : (b : Bool) → ltb n 255 ≡ b → eqb (cond b (n + 1) n) 0 ≡ false
-        on true e = ne-eqb (n + 1) 0 (λ z. omega arith)
-        on false e = ne-eqb n 0 (λ z. omega (arith, ltb-false n 255 e))
+    on : (b : Bool) → ltb n 255 ≡ b → eqb (cond b (n + 1) n) 0 ≡ false
+    on true e = ne-eqb (n + 1) 0 (λ z. omega arith)
+    on false e = ne-eqb n 0 (λ z. omega (arith, ltb-false n 255 e))
+
+-- So after it, with nothing unsaved, the last command is due.
+pub counted-due : (unsaved : Bool) (q : Request) → unsaved ≡ false → dueFrom unsaved (flushCounted q) ≡ lastOf (q .target)
+counted-due unsaved q saved = rw (saved, one-more-some (flushesOf (q .stage)))
 
 -- ---- the calls between two answers
 

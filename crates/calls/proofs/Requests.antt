@@ -158,7 +158,8 @@ pub record AskedBy (rs : List Record) (q : Request) (cdb : List ℕ) : Type 0 wh
   pub wants : wanted cdb ≡ Wants (q .target)
   pub request : requestFor (q .target) cdb ≡ begun q
 
-request-fits : (rs : List Record) (t : Target) (stage : Stage) → requestWellFormed rs t stage ≡ true → fits rs (Wants t) ≡ true
+-- A well-formed request's target fits the unit.
+pub request-fits : (rs : List Record) (t : Target) (stage : Stage) → requestWellFormed rs t stage ≡ true → fits rs (Wants t) ≡ true
 request-fits rs Stop stage h = refl
 request-fits rs Start stage h = refl
 request-fits rs (GoTo c) stage h = h

@@ -63,19 +63,30 @@ outcome u (logPage buffer) = record {
   buffer = logOutcome u buffer .buffer;
 }
 
--- One call after the other.
-abbrev pub step : Unit → Call → Unit
-step u c = outcome u c .unit
+-- A step function: what a call on a record comes to. The layer's is `outcome`; a wrong program has another.
+abbrev pub StepFunction : Type 0
+StepFunction = Unit → Call → Outcome
 
-abbrev pub run : Unit → List Call → Unit
-run u [] = u
-run u (c ∷ cs) = run (step u c) cs
+-- One call after the other, by a step function: each on the record that the one before it left.
+abbrev pub runBy : StepFunction → Unit → List Call → Unit
+runBy by u [] = u
+runBy by u (c ∷ cs) = runBy by (by u c .unit) cs
 
 -- The history of a run: each call with its outcome, first call first.
 pub record Event : Type 0 where
   pub call : Call
   pub came : Outcome
 
+abbrev pub historyBy : StepFunction → Unit → List Call → List Event
+historyBy by u [] = []
+historyBy by u (c ∷ cs) = record { call = c; came = by u c } ∷ historyBy by (by u c .unit) cs
+
+-- The layer's own step, run and history.
+abbrev pub step : Unit → Call → Unit
+step u c = outcome u c .unit
+
+abbrev pub run : Unit → List Call → Unit
+run = runBy outcome
+
 abbrev pub history : Unit → List Call → List Event
-history u [] = []
-history u (c ∷ cs) = record { call = c; came = outcome u c } ∷ history (step u c) cs
+history = historyBy outcome

@@ -2,6 +2,7 @@
 use mathlib.Core.Path.{_≡_}
 use mathlib.Core.Bool.{Bool, true, false}
 use mathlib.Core.List.{List, []}
+use mathlib.Core.Logic.{_↔_}
 use Prim.Native.Nat.{ℕ, _-_, _<_}
 use lib.ListN.{getD}
 use Rattle.pages.specs.Logs.{logPage as logBytes}
@@ -10,11 +11,12 @@ use Rattle.unit.specs.Refusals.{Row, _gives_, numberOf}
 use Rattle.unit.specs.Calls.{epcRows, epcEffect, tickRows, tickEffect, mediumRows, readEffect, writeEffect, resetRows, powerOnEffect, hardResetEffect, senseRows, toldBytes, senseEffect, logRows}
 use Rattle.unit.specs.declared.Refusal.{Refusal}
 use Rattle.unit.specs.declared.Refusal.the-variants.{BadLength}
+use Rattle.unit.specs.declared.Verdict.the-variants.{Given}
 use Rattle.unit.specs.declared.Unit.{Unit}
 use Rattle.bridge.specs.Cdb.{wanted}
 use Rattle.bridge.specs.Bridge.{startStopRows, startStopEffect, nextRows, nextEffect, answerRows, answerOn}
-use Rattle.calls.specs.Calls.{Call, setFeatures, tick, read, write, powerOn, hardReset, softReset, startStop, next, answer, requestSense, logPage}
-use Rattle.calls.specs.Table.{table}
+use Rattle.calls.specs.Calls.{Call, setFeatures, tick, read, write, powerOn, hardReset, softReset, startStop, next, answer, requestSense, logPage, StepFunction}
+use Rattle.calls.specs.Table.{table, verdictIn}
 
 -- ---- the first row that applies
 
@@ -45,6 +47,10 @@ appliesTo u c r = rowOf u c r .applies
 pub record LowestNumber (u : Unit) (c : Call) (r : Refusal) : Type 0 where
   pub applies : appliesTo u c r ≡ true
   pub none-lower : (q : Refusal) → numberOf q < numberOf r → appliesTo u c q ≡ false
+
+-- "The lowest number that applies is given", by a step function: exactly then, on every record and call.
+abbrev pub Numbers : StepFunction → Type 0
+Numbers by = (u : Unit) (c : Call) (r : Refusal) → verdictIn (by u c .said) ≡ Given r ↔ LowestNumber u c r
 
 -- ---- each call's own rows, and what it leaves where none applies
 

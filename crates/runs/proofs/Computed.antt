@@ -1,0 +1,17 @@
+-- Runs that are computed: one name for all that a step looks into.
+use Rattle.drive.specs.Records.{recordWellFormed, recordsWellFormed, driveWellFormed}
+use Rattle.drive.specs.Drives.{timersAsk, ticked, used, poweredOn, made}
+use Rattle.pages.specs.Senses.{senseBytes}
+use Rattle.epc.specs.Epc.{aborts, performed}
+use Rattle.unit.specs.Units.{hostsWellFormed, wellFormed}
+use Rattle.unit.specs.Refusals.{lowest}
+use Rattle.unit.specs.Calls.{epcOutcome, tickOutcome, readOutcome, writeOutcome, powerOnOutcome, senseOutcome}
+use Rattle.bridge.specs.Cdb.{wanted, isListed}
+use Rattle.bridge.specs.Operations.{answeredFor}
+use Rattle.bridge.specs.Bridge.{startStopOutcome, nextOutcome, answerOutcome}
+use Rattle.calls.specs.Calls.{StepFunction, outcome}
+
+-- The layer's step. Who says `unfolding computed` has open what its line names, and so can compute a run of these calls.
+unfoldable pub computed : StepFunction
+unfolding recordWellFormed recordsWellFormed driveWellFormed timersAsk ticked used poweredOn made senseBytes aborts performed hostsWellFormed wellFormed lowest epcOutcome tickOutcome readOutcome writeOutcome powerOnOutcome senseOutcome wanted isListed answeredFor startStopOutcome nextOutcome answerOutcome
+computed = outcome

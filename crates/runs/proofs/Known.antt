@@ -1,0 +1,318 @@
+-- The past knows the record: of each waiting operation the CDB, the flushes answered and the answers, and of what is out whether it is a flush.
+-- Each call keeps that, case by case; a case that changes a slot is split by whether it is this host's.
+use mathlib.Core.Path.{_≡_, refl, sym, ap, _∙_}
+use mathlib.Core.Bool.{Bool, true, false, not, cond, true≢false, false≢true}
+use mathlib.Core.List.{List, [], _∷_, map, reverseAux}
+use Prim.Native.Nat.{ℕ, zero, suc, _+_, _<_}
+use native.Mathlib.Omega.{arith}
+use lib.Dec.{eqb, ltb}
+use lib.ListN.{length, set, replicate}
+use borrow.Author.Tests.{ltb-true, ltb-false, lt-ltb, le-ltb, eqb-true, eqb-false, not-true, not-false}
+use Rattle.rows.specs.Rows.{everyAt}
+use Rattle.rows.proofs.Places.{and-left, and-right}
+use Rattle.epc.proofs.Effects.{either}
+use Rattle.unit.specs.Units.{emptySlot, slotOf, isWaiting, isOut, isOutFor, wellFormed, withSlot, rested}
+use Rattle.unit.specs.Refusals.{lowest}
+use Rattle.unit.specs.Calls.{tickEffect, mediumRows}
+use Rattle.unit.specs.declared.Target.{Target}
+use Rattle.unit.specs.declared.Target.the-variants.{Stop, Start, GoTo}
+use Rattle.unit.specs.declared.Stage.{Stage}
+use Rattle.unit.specs.declared.Stage.the-variants.{Straight, Flushing}
+use Rattle.unit.specs.declared.Request.{Request}
+use Rattle.unit.specs.declared.Slot.{Slot}
+use Rattle.unit.specs.declared.Slot.the-variants.{Empty, Waiting}
+use Rattle.unit.specs.declared.HostSlot.{HostSlot}
+use Rattle.unit.specs.declared.Out.{Out}
+use Rattle.unit.specs.declared.Out.the-variants.{NoneOut, OutFor}
+use Rattle.unit.specs.declared.Failure.the-variants.{CommandSequence}
+use Rattle.unit.specs.declared.Verdict.the-variants.{Clear}
+use Rattle.unit.specs.declared.Unit.{Unit}
+use Rattle.bridge.specs.Cdb.{byte, immed, noFlush, reservedOne, wanted, isListed, stageFor, requestFor}
+use Rattle.bridge.specs.Operations.{registersOf, dueFrom, isFlush, oneMore, flushesOf, flushCounted, flushedWell, failed, reportGood, reportFailed}
+use Rattle.bridge.specs.Bridge.{startStopRows, nextEffect, answerRows}
+use Rattle.bridge.specs.declared.Wanted.the-variants.{Wants}
+use Rattle.bridge.specs.declared.Due.{Due}
+use Rattle.bridge.specs.declared.Due.the-variants.{Flush, StandbyImmediate, ReadVerify, EpcGoTo}
+use Rattle.bridge.specs.declared.Reply.{Reply}
+use Rattle.bridge.specs.declared.Reply.the-variants.{Good, Bad}
+use Rattle.bridge.specs.declared.Report.{Report}
+use Rattle.calls.specs.Calls.{Call, tick, powerOn, hardReset, softReset, step, run, history}
+use Rattle.calls.proofs.Numbers.{clear-none}
+use Rattle.calls.proofs.Hosts.{own-slot, other-slot}
+use Rattle.calls.proofs.WellFormed.{unit-fine, well-formed-kept}
+use Rattle.calls.proofs.Progress.{last-no-flush}
+use Rattle.runs.specs.Deeds.{Deed, begins, sends, goesOn, ends, does, aborts, refuses, deeds}
+use Rattle.runs.specs.Past.{pastOf, cdbOf, flushSent, replies, flushesAnswered, heldAt255}
+use Rattle.runs.specs.Serial.{nothingWaits}
+use Rattle.runs.proofs.Deeds.{Taken, Cases, deedAt, by-deed}
+
+-- ---- a fact of the past and of the record, along a run
+
+module _ (P : List Deed → Unit → Type 0) (kept : (past : List Deed) (u : Unit) (c : Call) → P past u → P (deedAt u c ∷ past) (step u c)) where
+  pub along : (past : List Deed) (u : Unit) (cs : List Call) → P past u → P (reverseAux (deeds (history u cs)) past) (run u cs)
+  along past u [] p = p
+  along past u (c ∷ cs) p = along (deedAt u c ∷ past) (step u c) cs (kept past u c p)
+
+-- ---- what is known of a waiting operation
+
+-- the answers that it has got: its last flush's, which was good, once there was one
+abbrev pub goods : ℕ → List Reply
+goods zero = []
+goods (suc n) = Good ∷ []
+
+-- An operation that sends no flush has none answered; one that does has its count as its progress. The first stage is that of its acceptance.
+abbrev pub Reached : Stage → Stage → ℕ → List Reply → Type 0
+Reached Straight now n answers = (now ≡ Straight) × (n ≡ 0) × (answers ≡ [])
+Reached (Flushing m) now n answers = (now ≡ Flushing (heldAt255 n)) × (answers ≡ goods n)
+
+-- The CDB is one that START STOP UNIT takes, and asks for this request; the request stands where its flushes answered have brought it.
+pub record Noted (cdb : List ℕ) (n : ℕ) (answers : List Reply) (q : Request) : Type 0 where
+  pub six : length cdb ≡ 6
+  pub opcode : byte 0 cdb ≡ 0x1B
+  pub unreserved : reservedOne cdb ≡ false
+  pub wants : wanted cdb ≡ Wants (q .target)
+  pub immediate : immed cdb ≡ q .immed
+  pub reached : Reached (stageFor (q .target) (noFlush cdb)) (q .stage) n answers
+
+abbrev pub NotedBy : List Deed → ℕ → Request → Type 0
+NotedBy past host q = Noted (cdbOf host past) (flushesAnswered host past) (replies host past) q
+
+abbrev pub Operations : List Deed → List HostSlot → Type 0
+Operations past slots = (host : ℕ) (q : Request) → slotOf slots host ≡ Waiting q → NotedBy past host q
+
+-- The command that is out is the one sent last.
+abbrev pub CommandOut : List Deed → List HostSlot → Bool → Out → Type 0
+CommandOut past slots unsaved out = (host : ℕ) (q : Request) → out ≡ OutFor host → slotOf slots host ≡ Waiting q
+    → flushSent past ≡ isFlush (dueFrom unsaved q)
+
+abbrev pub Known : List Deed → Unit → Type 0
+Known past u = (wellFormed u ≡ true) × Operations past (u .slots) × CommandOut past (u .slots) (u .unsaved) (u .out)
+
+-- ---- counts and commands
+
+pub counts-on : (n : ℕ) → oneMore (heldAt255 n) ≡ heldAt255 (suc n)
+counts-on n = on (ltb n 255) refl
+  where
+    below : (b : Bool) → ltb (suc n) 255 ≡ b → n < 255 → n + 1 ≡ cond b (suc n) 255
+    below true e h = omega arith
+    below false e h = omega (arith, ltb-false (suc n) 255 e)
+
+    on : (b : Bool) → ltb n 255 ≡ b → oneMore (cond b n 255) ≡ heldAt255 (suc n)
+    on true e = rw e (below (ltb (suc n) 255) refl (ltb-true n 255 e))
+    on false e = rw (le-ltb (suc n) 255 (omega (arith, ltb-false n 255 e)))
+
+pub is-flush : (d : Due) → eqb (registersOf d .command) 0xE7 ≡ isFlush d
+is-flush Flush = refl
+is-flush StandbyImmediate = refl
+is-flush ReadVerify = refl
+is-flush (EpcGoTo c) = refl
+
+-- ---- each case
+
+pub waiting-same : (p q : Request) → Waiting p ≡ Waiting q → p ≡ q
+waiting-same p q e = cc
+
+pub empty-waits : {A : Type 0} (q : Request) → Empty ≡ Waiting q → A
+empty-waits q e = let no : _≡_ {A = ℕ} 0 1 = cc in absurd (omega arith)
+
+out-same : (h k : ℕ) → OutFor h ≡ OutFor k → h ≡ k
+out-same h k e = cc
+
+pub taken-out : (u : Unit) (host : ℕ) → not (isOutFor host (u .out)) ≡ false → u .out ≡ OutFor host
+taken-out u host e = on (u .out) (not-false _ e)
+  where
+    on : (o : Out) → isOutFor host o ≡ true → o ≡ OutFor host
+    on NoneOut e = absurd (false≢true e)
+    on (OutFor h) e = ap OutFor (eqb-true h host e)
+
+none-out-for : {A : Type 0} (o : Out) (k : ℕ) → isOut o ≡ false → o ≡ OutFor k → A
+none-out-for o k none e = absurd (true≢false (sym (ap isOut e) ∙ none))
+
+pub inside : (u : Unit) (host : ℕ) → wellFormed u ≡ true → ltb 3 host ≡ false → host < length (u .slots)
+inside u host fine h = omega (arith, unit-fine u .0 fine .slots, ltb-false 3 host h)
+
+-- After a slot is set, an operation that waits is the one set, if it is this host's, or another host's as before.
+pub slot-after : (slots : List HostSlot) (host k : ℕ) (s : Slot) → host < length slots
+    → slotOf (set slots host (record { slot = s })) k ≡ cond (eqb host k) s (slotOf slots k)
+slot-after slots host k s h = on (eqb host k) refl
+  where
+    on : (b : Bool) → eqb host k ≡ b → slotOf (set slots host (record { slot = s })) k ≡ cond b s (slotOf slots k)
+    on true e = rw (← eqb-true host k e) (own-slot slots host s h)
+    on false e = other-slot host k (λ same. eqb-false host k e (sym same)) slots s
+
+-- An operation that sends no flush has no flush due.
+pub straight-no-flush : (unsaved : Bool) (q : Request) → q .stage ≡ Straight → isFlush (dueFrom unsaved q) ≡ false
+straight-no-flush unsaved q e = rw e (last-no-flush (q .target))
+
+-- A flush answered brings a flushing operation one further.
+flush-reached : (begun : Stage) (n : ℕ) (answers : List Reply) (unsaved : Bool) (q : Request) → Reached begun (q .stage) n answers
+    → isFlush (dueFrom unsaved q) ≡ true → Reached begun (Flushing (oneMore (flushesOf (q .stage)))) (suc n) (Good ∷ [])
+flush-reached Straight n answers unsaved q r f = absurd (true≢false (sym f ∙ straight-no-flush unsaved q (r .0)))
+flush-reached (Flushing m) n answers unsaved q r f = (rw (r .0, counts-on n), refl)
+
+fresh-reached : (t : Target) (without : Bool) → Reached (stageFor t without) (stageFor t without) 0 []
+fresh-reached Stop true = (refl, refl, refl)
+fresh-reached Stop false = (refl, refl)
+fresh-reached Start without = (refl, refl, refl)
+fresh-reached (GoTo c) true = (refl, refl, refl)
+fresh-reached (GoTo c) false = (refl, refl)
+
+-- A CDB that is accepted, as the request that it asks for.
+begun-noted : (u : Unit) (host : ℕ) (cdb : List ℕ) (t : Target) → lowest (startStopRows u host cdb) ≡ Clear → wanted cdb ≡ Wants t
+    → Noted cdb 0 [] (requestFor t cdb)
+unfolding isListed
+begun-noted u host cdb t clear wants = record {
+  six = eqb-true _ _ (not-false _ (clear-none (startStopRows u host cdb) clear 0));
+  opcode = eqb-true _ _ (not-false _ (clear-none (startStopRows u host cdb) clear 5));
+  unreserved = not-true _ (and-left (not (reservedOne cdb)) _ (not-false _ (clear-none (startStopRows u host cdb) clear 6)));
+  wants = wants;
+  immediate = refl;
+  reached = fresh-reached t (noFlush cdb);
+}
+
+-- A flush that was answered well.
+flushed-noted : (cdb : List ℕ) (n : ℕ) (answers : List Reply) (unsaved : Bool) (q : Request) → Noted cdb n answers q
+    → isFlush (dueFrom unsaved q) ≡ true → Noted cdb (suc n) (Good ∷ []) (flushCounted q)
+flushed-noted cdb n answers unsaved q noted f = record {
+  six = noted .six;
+  opcode = noted .opcode;
+  unreserved = noted .unreserved;
+  wants = noted .wants;
+  immediate = noted .immediate;
+  reached = flush-reached (stageFor (q .target) (noFlush cdb)) n answers unsaved q (noted .reached) f;
+}
+
+-- After a reset nothing waits.
+pub none-waits : (k : ℕ) → slotOf (replicate 4 emptySlot) k ≡ Empty
+none-waits k = all 4 k
+  where
+    all : (n k : ℕ) → slotOf (replicate n emptySlot) k ≡ Empty
+    all zero k = refl
+    all (suc n) zero = refl
+    all (suc n) (suc k) = all n k
+
+module _ (past : List Deed) (u : Unit) (known : Known past u) where
+  abbrev ops : Operations past (u .slots)
+  ops = known .1
+
+  abbrev out : CommandOut past (u .slots) (u .unsaved) (u .out)
+  out = known .2
+
+  abbrev Stay : Deed → Unit → Type 0
+  Stay d v = Operations (d ∷ past) (v .slots) × CommandOut (d ∷ past) (v .slots) (v .unsaved) (v .out)
+
+  begun-stays : (host : ℕ) (cdb : List ℕ) (t : Target) → lowest (startStopRows u host cdb) ≡ Clear → wanted cdb ≡ Wants t
+      → Stay (begins host cdb) (withSlot host (Waiting (requestFor t cdb)) (rested u))
+  begun-stays host cdb t clear wants = (
+    λ k q w. on k q (eqb host k) (sym (slot-after (u .slots) host k _ (inside u host (known .0) (clear-none (startStopRows u host cdb) clear 1))) ∙ w),
+    λ k q o w. none-out-for (u .out) k (clear-none (startStopRows u host cdb) clear 3) o,
+  )
+    where
+      on : (k : ℕ) (q : Request) (b : Bool) → cond b (Waiting (requestFor t cdb)) (slotOf (u .slots) k) ≡ Waiting q
+          → Noted (cond b cdb (cdbOf k past)) (cond b 0 (flushesAnswered k past)) (cond b [] (replies k past)) q
+      on k q true w = rw (← waiting-same _ q w) (begun-noted u host cdb t clear wants)
+      on k q false w = ops k q w
+
+  asked-stays : (host : ℕ) (q : Request) → slotOf (u .slots) host ≡ Waiting q
+      → Stay (sends host (registersOf (dueFrom (u .unsaved) q))) (nextEffect host u)
+  asked-stays host q waits = (
+    ops,
+    λ k p o w.
+        is-flush (dueFrom (u .unsaved) q)
+        ∙ ap (λ (r : Request). isFlush (dueFrom (u .unsaved) r)) (waiting-same q p (sym waits ∙ ap (slotOf (u .slots)) (out-same host k o) ∙ w)),
+  )
+
+  -- An answer to the host's operation: its slot is set, and nothing is out.
+  answered-stays : (d : Deed) (host : ℕ) (q : Request) (s : Slot) (unsaved : Bool) → Taken u host q
+      → ((k : ℕ) (p : Request) (b : Bool) → eqb host k ≡ b → cond b s (slotOf (u .slots) k) ≡ Waiting p → NotedBy (d ∷ past) k p)
+      → Operations (d ∷ past) (set (u .slots) host (record { slot = s })) × CommandOut (d ∷ past) (set (u .slots) host (record { slot = s })) unsaved NoneOut
+  answered-stays d host q s unsaved taken noted = (
+    λ k p w.
+        noted k p (eqb host k) refl
+        (sym (slot-after (u .slots) host k s (inside u host (known .0) (clear-none (answerRows u host) (taken .clear) 0))) ∙ w),
+    λ k p o w. none-out-for NoneOut k refl o,
+  )
+
+  -- An answer that is taken is to the command that was due.
+  pub sent-due : (host : ℕ) (q : Request) → Taken u host q → flushSent past ≡ isFlush (dueFrom (u .unsaved) q)
+  sent-due host q taken = out host q (taken-out u host (clear-none (answerRows u host) (taken .clear) 2)) (taken .waiting)
+
+  flushed-stays : (host : ℕ) (q : Request) → Taken u host q → isFlush (dueFrom (u .unsaved) q) ≡ true
+      → Stay (goesOn host Good) (flushedWell u host q .unit)
+  flushed-stays host q taken f = answered-stays (goesOn host Good) host q (Waiting (flushCounted q)) false taken noted
+    where
+      noted : (k : ℕ) (p : Request) (b : Bool) → eqb host k ≡ b → cond b (Waiting (flushCounted q)) (slotOf (u .slots) k) ≡ Waiting p
+          → NotedBy (goesOn host Good ∷ past) k p
+      noted k p true e w =
+          rw (e, sent-due host q taken ∙ f, ← waiting-same _ p w, ← eqb-true host k e)
+          (flushed-noted _ _ _ (u .unsaved) q (ops host q (taken .waiting)) f)
+      noted k p false e w = rw e (ops k p w)
+
+  ended-stays : (host : ℕ) (reply : Reply) (report : Report) (q : Request) (unsaved : Bool) → Taken u host q
+      → Operations (ends host reply report ∷ past) (set (u .slots) host emptySlot)
+      × CommandOut (ends host reply report ∷ past) (set (u .slots) host emptySlot) unsaved NoneOut
+  ended-stays host reply report q unsaved taken = answered-stays (ends host reply report) host q Empty unsaved taken noted
+    where
+      noted : (k : ℕ) (p : Request) (b : Bool) → eqb host k ≡ b → cond b Empty (slotOf (u .slots) k) ≡ Waiting p
+          → NotedBy (ends host reply report ∷ past) k p
+      noted k p true e w = empty-waits p w
+      noted k p false e w = rw e (ops k p w)
+
+  failed-stays : (host : ℕ) (reply : Reply) (q : Request) (n : ℕ) → Taken u host q
+      → Stay (ends host reply (reportFailed (q .immed) CommandSequence n)) (failed u host q CommandSequence n .unit)
+  failed-stays host reply q n taken =
+      let report = reportFailed (q .immed) CommandSequence n in
+      let over = ended-stays host reply report q (u .unsaved) taken in
+      either (Stay (ends host reply report)) (q .immed) _ _ over over
+
+  cleared : (d : Deed) (unsaved : Bool)
+      → Operations (d ∷ past) (replicate 4 emptySlot) × CommandOut (d ∷ past) (replicate 4 emptySlot) unsaved NoneOut
+  cleared d unsaved = (λ k q w. empty-waits q (sym (none-waits k) ∙ w), λ k q o w. none-out-for NoneOut k refl o)
+
+  stays : Cases Stay u
+  stays = record {
+    refused = λ c. (ops, out);
+    aborted = λ q a. (ops, out);
+    begun = begun-stays;
+    asked = λ host q clear. asked-stays host q;
+    flushed = flushed-stays;
+    flush-failed = λ host q taken f. failed-stays host Bad q (oneMore (flushesOf (q .stage))) taken;
+    last-succeeded = λ host reply q taken f g. ended-stays host reply (reportGood (q .immed) (flushesOf (q .stage))) q (u .unsaved) taken;
+    last-failed = λ host reply q taken f g. failed-stays host reply q (flushesOf (q .stage)) taken;
+    epc = λ q clear. (ops, out);
+    ticks = either (Stay (does tick)) (isOut (u .out)) _ _ (ops, out) (ops, out);
+    reads = λ host clear. (ops, out);
+    writes = λ host clear. (ops, λ k q o w. none-out-for (u .out) k (clear-none (mediumRows u host) clear 2) o);
+    powers-on = cleared (does powerOn) false;
+    resets-hard = cleared (does hardReset) (u .unsaved);
+    resets-soft = cleared (does softReset) (u .unsaved);
+    tells = λ host buffer clear. (ops, out);
+    logs = λ buffer clear. (ops, out);
+  }
+
+-- What is known of the record stays known, whatever the call.
+pub known-kept : (past : List Deed) (u : Unit) (c : Call) → Known past u → Known (deedAt u c ∷ past) (step u c)
+known-kept past u c known =
+    let stay = by-deed (Stay past u known) u (stays past u known) c in
+    (well-formed-kept u c (known .0), stay .0, stay .1)
+
+-- Where nothing waits every slot is empty, past the fourth too.
+pub nothing-waits : (u : Unit) → nothingWaits u ≡ true → (k : ℕ) → slotOf (u .slots) k ≡ Empty
+nothing-waits u = each 0 (u .slots)
+  where
+    empty : (s : Slot) → not (isWaiting s) ≡ true → s ≡ Empty
+    empty Empty h = refl
+    empty (Waiting q) h = absurd (false≢true h)
+
+    each : (at : ℕ) (slots : List HostSlot) → everyAt (λ i s. not (isWaiting (s .slot))) at slots ≡ true → (k : ℕ) → slotOf slots k ≡ Empty
+    each at [] h k = refl
+    each at (s ∷ slots) h zero = empty (s .slot) (and-left (not (isWaiting (s .slot))) _ h)
+    each at (s ∷ slots) h (suc k) = each (suc at) slots (and-right (not (isWaiting (s .slot))) _ h) k
+
+-- With nothing waiting there is nothing to know.
+pub known-at-first : (u : Unit) → wellFormed u ≡ true → ((k : ℕ) → slotOf (u .slots) k ≡ Empty) → Known [] u
+known-at-first u fine none = (fine, λ k q w. empty-waits q (sym (none k) ∙ w), λ k q o w. empty-waits q (sym (none k) ∙ w))
+
+-- So over any run from there the past knows the record.
+pub known-after : (u : Unit) → wellFormed u ≡ true → nothingWaits u ≡ true → (cs : List Call) → Known (pastOf u cs) (run u cs)
+known-after u fine none cs = along Known known-kept [] u cs (known-at-first u fine (nothing-waits u none))

@@ -1,0 +1,12 @@
+pub mod Deeds
+pub mod Known
+pub mod Whole
+pub mod Same
+pub mod Over
+pub mod Demand3
+pub mod Safe
+pub mod FlushCount
+pub mod Reports
+pub mod Computed
+pub mod WrongSteps
+pub mod Afternoon

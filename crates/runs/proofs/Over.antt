@@ -1,0 +1,354 @@
+-- Demand 3 at the calls of an operation. Until its last answer nothing stands in the serial run, and only the unsaved mark may come apart. At its last
+-- answer it is run whole there: both runs then have the same answer to the same command, which sets condition, idle count, marks and held sense alike.
+use mathlib.Core.Path.{_≡_, refl, sym, ap, _∙_}
+use mathlib.Core.Bool.{Bool, true, false, _||_, cond, true≢false, false≢true}
+use mathlib.Core.List.{List, [], _∷_, _++_, append-nil}
+use mathlib.Core.Logic.{_⊎_, inl, inr}
+use Prim.Native.Nat.{ℕ, zero, suc}
+use native.Mathlib.Omega.{arith}
+use lib.Dec.{eqb, ltb}
+use lib.ListN.{set}
+use borrow.Author.Tests.{eq-eqb}
+use Rattle.epc.specs.declared.Registers.{Registers}
+use Rattle.unit.specs.Units.{emptySlot, slotOf, isWaiting, requestWellFormed, slotWellFormed, wellFormed, withSlot, rested}
+use Rattle.unit.specs.Refusals.{lowest}
+use Rattle.unit.specs.declared.Target.{Target}
+use Rattle.unit.specs.declared.Target.the-variants.{Stop, Start, GoTo}
+use Rattle.unit.specs.declared.Stage.{Stage}
+use Rattle.unit.specs.declared.Stage.the-variants.{Straight, Flushing}
+use Rattle.unit.specs.declared.Request.{Request}
+use Rattle.unit.specs.declared.Slot.the-variants.{Empty, Waiting}
+use Rattle.unit.specs.declared.HostSlot.{HostSlot}
+use Rattle.unit.specs.declared.Failure.{Failure}
+use Rattle.unit.specs.declared.Failure.the-variants.{CommandSequence}
+use Rattle.unit.specs.declared.Verdict.the-variants.{Clear}
+use Rattle.unit.specs.declared.Unit.{Unit}
+use Rattle.bridge.specs.Cdb.{noFlush, wanted, stageFor, requestFor}
+use Rattle.bridge.specs.Operations.{registersOf, lastOf, dueFrom, isFlush, oneMore, flushesOf, reportGood, reportFailed, heldIf, flushCounted, flushedWell, failed, succeeded, countsAsGood, answeredFor}
+use Rattle.bridge.specs.Bridge.{startStopRows, nextEffect, answerRows}
+use Rattle.bridge.specs.declared.Wanted.the-variants.{Wants}
+use Rattle.bridge.specs.declared.Due.{Due}
+use Rattle.bridge.specs.declared.Due.the-variants.{Flush}
+use Rattle.bridge.specs.declared.Reply.{Reply}
+use Rattle.bridge.specs.declared.Reply.the-variants.{Good, Bad}
+use Rattle.bridge.specs.declared.Report.{Report}
+use Rattle.bridge.specs.declared.Progress.the-variants.{Ended}
+use Rattle.bridge.specs.declared.Replied.{Replied}
+use Rattle.calls.specs.Calls.{Call}
+use Rattle.calls.proofs.Numbers.{clear-none}
+use Rattle.calls.proofs.Hosts.{own-slot}
+use Rattle.calls.proofs.WellFormed.{unit-fine}
+use Rattle.calls.proofs.Progress.{last-no-flush, one-more-some}
+use Rattle.runs.specs.Deeds.{Deed, begins, sends, goesOn, ends}
+use Rattle.runs.specs.Past.{cdbOf, flushSent, gets, replies, flushesAnswered, heldAt255}
+use Rattle.runs.specs.Serial.{whole, inPlaceOf}
+use Rattle.runs.proofs.Deeds.{Taken}
+use Rattle.runs.proofs.Known.{goods, Reached, NotedBy, Known, empty-waits, waiting-same, sent-due, inside, straight-no-flush}
+use Rattle.runs.proofs.Whole.{Quiet, RunsTo, Ready, ready-begun, ready-flushed, flushed-due, whole-once, whole-twice}
+use Rattle.runs.proofs.Same.{Helped, SameMark, Same, StandFor, Follows, Stands, left-fine, nothing, mark-beside}
+
+-- ---- both ends
+
+-- u' and w' are left by the same end of the operation, in u and in w: nothing waits in w', and in u' it no longer does.
+pub record BothEnded (u w u' w' : Unit) (host : ℕ) : Type 0 where
+  pub records : w' .drive .records ≡ u' .drive .records
+  pub power : w' .drive .power ≡ u' .drive .power
+  pub idle : w' .drive .idle ≡ u' .drive .idle
+  pub stopped : w' .stopped ≡ u' .stopped
+  pub held : w' .held ≡ u' .held
+  pub quiet : Quiet w'
+  pub slots : u' .slots ≡ set (u .slots) host emptySlot
+  pub mark : u' .unsaved ≡ u .unsaved
+  pub mark' : w' .unsaved ≡ w .unsaved
+
+both-held : (u w x y : Unit) (host : ℕ) (b : Bool) (f : Failure) → BothEnded u w x y host → BothEnded u w (heldIf b host f x) (heldIf b host f y) host
+both-held u w x y host true f e = record {
+  records = e .records;
+  power = e .power;
+  idle = e .idle;
+  stopped = e .stopped;
+  held = rw (e .held);
+  quiet = e .quiet;
+  slots = e .slots;
+  mark = e .mark;
+  mark' = e .mark';
+}
+both-held u w x y host false f e = e
+
+-- The last answer, by whether it counts as good.
+abbrev pub lastBy : Bool → Unit → ℕ → Request → Replied
+lastBy good u host q = cond good (succeeded u host q) (failed u host q CommandSequence (flushesOf (q .stage)))
+
+abbrev pub lastReport : Bool → Request → Report
+lastReport good q = cond good (reportGood (q .immed) (flushesOf (q .stage))) (reportFailed (q .immed) CommandSequence (flushesOf (q .stage)))
+
+last-report : (good : Bool) (u : Unit) (host : ℕ) (q : Request) → lastBy good u host q .answer ≡ Ended (lastReport good q)
+last-report true u host q = refl
+last-report false u host q = refl
+
+last-taken : (w : Unit) (host : ℕ) (p : Request) (reply : Reply) (good : Bool) → isFlush (dueFrom (w .unsaved) p) ≡ false
+    → countsAsGood (p .target) reply ≡ good → answeredFor w host p reply ≡ lastBy good w host p
+unfolding answeredFor
+last-taken w host p reply good due g = rw (due, g)
+
+bad-flush-taken : (w : Unit) (host : ℕ) (p : Request) → p .stage ≡ Flushing 0
+    → answeredFor w host p Bad ≡ failed w host p CommandSequence (oneMore (flushesOf (p .stage)))
+unfolding answeredFor
+bad-flush-taken w host p e = rw e
+
+module _ (u v w : Unit) (host : ℕ) (q p : Request) (same : Same u v) (ready : Ready v w host q p) where
+  records : w .drive .records ≡ u .drive .records
+  records = ready .records ∙ same .records
+
+  held : w .held ≡ u .held
+  held = ready .held ∙ same .held
+
+  pub both-failed : (n m : ℕ) → BothEnded u w (failed u host q CommandSequence n .unit) (failed (nextEffect host w) host p CommandSequence m .unit) host
+  both-failed n m = rw (ready .immediate) (both-held u w _ _ host (q .immed) CommandSequence (record {
+    records = records;
+    power = refl;
+    idle = refl;
+    stopped = ready .stopped ∙ same .stopped;
+    held = held;
+    quiet = ready .others;
+    slots = refl;
+    mark = refl;
+    mark' = refl;
+  }))
+
+  both-succeeded : BothEnded u w (succeeded u host q .unit) (succeeded (nextEffect host w) host p .unit) host
+  both-succeeded = record {
+    records = records;
+    power = rw (records, ready .target);
+    idle = refl;
+    stopped = rw (ready .target);
+    held = held;
+    quiet = ready .others;
+    slots = refl;
+    mark = refl;
+    mark' = refl;
+  }
+
+  pub both-last : (good : Bool) → BothEnded u w (lastBy good u host q .unit) (lastBy good (nextEffect host w) host p .unit) host
+  both-last true = both-succeeded
+  both-last false = both-failed (flushesOf (q .stage)) (flushesOf (p .stage))
+
+-- ---- the operation that helped
+
+-- Its last command is due,
+helper-due : (slots : List HostSlot) (mark : Bool) (h : Helped slots mark) → isFlush (dueFrom mark (h .request)) ≡ false
+helper-due slots mark h = rw (h .saved, h .stage, h .some) (last-no-flush (h .request .target))
+
+-- and it is the one that waits in its host's slot.
+helper-is : (slots : List HostSlot) (mark : Bool) (h : Helped slots mark) (host : ℕ) (q : Request) → slotOf slots host ≡ Waiting q → h .host ≡ host
+    → h .request ≡ q
+helper-is slots mark h host q waits e = waiting-same (h .request) q (sym (h .waits) ∙ ap (slotOf slots) e ∙ waits)
+
+straight-flushing : {A : Type 0} (n : ℕ) → Straight ≡ Flushing n → A
+straight-flushing n e = let apart : _≡_ {A = ℕ} 0 1 = cc in absurd (omega arith)
+
+-- ---- where its last command is due
+
+-- a flush is answered and nothing is unsaved
+last-means : (n : ℕ) (unsaved : Bool) (last : Due) → isFlush (cond (eqb n 0 || unsaved) Flush last) ≡ false → (eqb n 0 ≡ false) × (unsaved ≡ false)
+last-means n unsaved last f = on (eqb n 0) unsaved f
+  where
+    on : (b c : Bool) → isFlush (cond (b || c) Flush last) ≡ false → (b ≡ false) × (c ≡ false)
+    on true c f = absurd (true≢false f)
+    on false true f = absurd (true≢false f)
+    on false false f = (refl, refl)
+
+-- so the flush's good answer is what it has got
+some-good : (n : ℕ) → eqb (heldAt255 n) 0 ≡ false → goods n ≡ Good ∷ []
+some-good zero e = absurd (true≢false e)
+some-good (suc n) e = refl
+
+begins-at-zero : (t : Target) (without : Bool) (m : ℕ) → stageFor t without ≡ Flushing m → stageFor t without ≡ Flushing 0
+begins-at-zero Stop true m e = straight-flushing m e
+begins-at-zero Stop false m e = refl
+begins-at-zero Start without m e = straight-flushing m e
+begins-at-zero (GoTo c) true m e = straight-flushing m e
+begins-at-zero (GoTo c) false m e = refl
+
+module _ (past : List Deed) (u v : Unit) (known : Known past u) (same : Same u v) where
+  abbrev Beside : Deed → Unit → Type 0
+  Beside = Stands past u v (known .0) same
+
+  waits-there : {A : Type 0} (w : Unit) (host : ℕ) (q : Request) → slotOf (w .slots) host ≡ Waiting q → Quiet w → A
+  waits-there w host q waits quiet = empty-waits q (sym (quiet host) ∙ waits)
+
+  -- ---- before the end
+
+  pub begins-on : (host : ℕ) (cdb : List ℕ) (t : Target) → lowest (startStopRows u host cdb) ≡ Clear → wanted cdb ≡ Wants t
+      → Beside (begins host cdb) (withSlot host (Waiting (requestFor t cdb)) (rested u))
+  begins-on host cdb t clear wants r =
+      let u' = withSlot host (Waiting (requestFor t cdb)) (rested u) in
+      let waits = own-slot (u .slots) host (Waiting (requestFor t cdb)) (inside u host (known .0) (clear-none (startStopRows u host cdb) clear 1)) in
+      nothing past u v (known .0) same (begins host cdb) u' refl
+      (record { none-refused = refl; same-others = refl; beginner = refl; begun = λ k. refl }) (record {
+        fine = same .fine;
+        quiet = same .quiet;
+        records = same .records;
+        stopped = same .stopped;
+        held = same .held;
+        unsaved = mark-beside (u .slots) (u .unsaved) (v .unsaved) host _ other (same .unsaved);
+        at-rest = waits-there u' host _ waits;
+      })
+    where
+      other : (h : Helped (u .slots) (u .unsaved)) → h .host ≡ host → ⊥
+      other h e =
+          let none : isWaiting (slotOf (u .slots) host) ≡ false = clear-none (startStopRows u host cdb) clear 4 in
+          true≢false (sym (ap isWaiting (sym (ap (slotOf (u .slots)) e) ∙ h .waits)) ∙ none)
+
+  pub asks-on : (host : ℕ) (q : Request) → slotOf (u .slots) host ≡ Waiting q → Beside (sends host (registersOf (dueFrom (u .unsaved) q))) (nextEffect host u)
+  asks-on host q waits r =
+      nothing past u v (known .0) same _ (nextEffect host u) refl
+      (record { none-refused = refl; same-others = refl; beginner = refl; begun = λ k. refl }) (record {
+        fine = same .fine;
+        quiet = same .quiet;
+        records = same .records;
+        stopped = same .stopped;
+        held = same .held;
+        unsaved = same .unsaved;
+        at-rest = waits-there u host q waits;
+      })
+
+  pub flushes-on : (host : ℕ) (q : Request) → Taken u host q → Beside (goesOn host Good) (flushedWell u host q .unit)
+  flushes-on host q taken r =
+      let u' = flushedWell u host q .unit in
+      let waits = own-slot (u .slots) host (Waiting (flushCounted q)) (inside u host (known .0) (clear-none (answerRows u host) (taken .clear) 0)) in
+      nothing past u v (known .0) same (goesOn host Good) u' refl
+      (record { none-refused = refl; same-others = refl; beginner = refl; begun = λ k. refl }) (record {
+        fine = same .fine;
+        quiet = same .quiet;
+        records = same .records;
+        stopped = same .stopped;
+        held = same .held;
+        unsaved = inr (record {
+          saved = refl;
+          host = host;
+          request = flushCounted q;
+          waits = waits;
+          count = oneMore (flushesOf (q .stage));
+          stage = refl;
+          some = one-more-some (flushesOf (q .stage));
+        });
+        at-rest = waits-there u' host (flushCounted q) waits;
+      })
+
+  -- ---- the end
+
+  module _ (host : ℕ) (q : Request) (taken : Taken u host q) where
+    abbrev cdb : List ℕ
+    cdb = cdbOf host past
+
+    abbrev first : Request
+    first = requestFor (q .target) cdb
+
+    noted : NotedBy past host q
+    noted = known .1 host q (taken .waiting)
+
+    below : ltb 3 host ≡ false
+    below = clear-none (answerRows u host) (taken .clear) 0
+
+    asked : requestWellFormed (v .drive .records) (q .target) (q .stage) ≡ true
+    asked =
+        rw (same .records)
+        (ap (slotWellFormed (u .drive .records)) (sym (taken .waiting)) ∙ unit-fine u .0 (known .0) .requests host)
+
+    -- What the operation has got with this answer.
+    got : (reply : Reply) (report : Report) (flush : Bool) → isFlush (dueFrom (u .unsaved) q) ≡ flush
+        → replies host (ends host reply report ∷ past) ≡ gets flush reply (replies host past)
+    got reply report flush f = rw (eq-eqb host host refl, sent-due past u known host q taken, f)
+
+    ends-on : (reply : Reply) (report : Report) (answers : List Reply) (ds : List Deed) (w u' w' : Unit)
+        → replies host (ends host reply report ∷ past) ≡ answers → RunsTo v (whole host cdb answers) ds w'
+        → StandFor past (ends host reply report) ds → BothEnded u w u' w' host
+        → SameMark (set (u .slots) host emptySlot) (u .unsaved) (w .unsaved) → Follows past v (ends host reply report) u'
+    ends-on reply report answers ds w u' w' e runs stand both mark = record {
+      ds = ds;
+      v' = w';
+      runs = rw e runs;
+      same = record {
+        fine = left-fine v w' _ ds (same .fine) runs;
+        quiet = both .quiet;
+        records = both .records;
+        stopped = both .stopped;
+        held = both .held;
+        unsaved = rw (both .slots, both .mark, both .mark') mark;
+        at-rest = λ quiet. (both .power, both .idle);
+      };
+      stand = stand;
+    }
+
+    -- An operation that is not the one that helped leaves the marks as they are beside each other.
+    mark-stays : ((h : Helped (u .slots) (u .unsaved)) → h .request ≡ q → ⊥) → SameMark (set (u .slots) host emptySlot) (u .unsaved) (v .unsaved)
+    mark-stays other =
+        mark-beside (u .slots) (u .unsaved) (v .unsaved) host Empty
+        (λ h e. other h (helper-is (u .slots) (u .unsaved) h host q (taken .waiting) e)) (same .unsaved)
+
+    stand-once : (reply : Reply) (report report' : Report) (r : Registers)
+        → StandFor past (ends host reply report) (begins host cdb ∷ sends host r ∷ ends host reply report' ∷ [])
+    stand-once reply report report' r = record { none-refused = refl; same-others = refl; beginner = refl; begun = λ k. append-nil _ }
+
+    stand-twice : (reply : Reply) (report report' : Report) (r s : Registers)
+        → StandFor past (ends host reply report)
+        (begins host cdb ∷ sends host r ∷ goesOn host Good ∷ sends host s ∷ ends host reply report' ∷ [])
+    stand-twice reply report report' r s = record { none-refused = refl; same-others = refl; beginner = refl; begun = λ k. append-nil _ }
+
+    -- What is waiting in the serial run at the operation's first command, and at the one after a good flush.
+    abbrev begun : Unit
+    begun = withSlot host (Waiting first) (rested v)
+
+    abbrev flushed : Unit
+    flushed = flushedWell (nextEffect host begun) host first .unit
+
+    -- A bad flush: the first one in the serial run.
+    pub flush-fails-on : isFlush (dueFrom (u .unsaved) q) ≡ true → (n : ℕ) (report : Report)
+        → Beside (ends host Bad report) (failed u host q CommandSequence n .unit)
+    flush-fails-on f n report r = on (first .stage) refl (noted .reached)
+      where
+        other : (h : Helped (u .slots) (u .unsaved)) → h .request ≡ q → ⊥
+        other h is = true≢false (sym f ∙ ap (λ (x : Request). isFlush (dueFrom (u .unsaved) x)) (sym is) ∙ helper-due (u .slots) (u .unsaved) h)
+
+        on : (s : Stage) → first .stage ≡ s → Reached s (q .stage) (flushesAnswered host past) (replies host past)
+            → Follows past v (ends host Bad report) (failed u host q CommandSequence n .unit)
+        on Straight e reached = absurd (true≢false (sym f ∙ straight-no-flush (u .unsaved) q (reached .0)))
+        on (Flushing m) e reached =
+            let x = failed (nextEffect host begun) host first CommandSequence (oneMore (flushesOf (first .stage))) in
+            ends-on Bad report (Bad ∷ []) _ begun _ (x .unit) (got Bad report true f)
+            (whole-once v (same .fine) (same .quiet) host below cdb _ _ q noted asked Bad x _
+            (bad-flush-taken (nextEffect host begun) host first (begins-at-zero (q .target) (noFlush cdb) m e)) refl)
+            (stand-once Bad report _ _)
+            (both-failed u v begun host q first same (ready-begun v (same .fine) (same .quiet) host below cdb _ _ q noted asked) n (oneMore (flushesOf (first .stage))))
+            (mark-stays other)
+
+    -- The last command, after no flush or after one.
+    pub last-on : isFlush (dueFrom (u .unsaved) q) ≡ false → (reply : Reply) (good : Bool) → countsAsGood (q .target) reply ≡ good → (report : Report)
+        → Beside (ends host reply report) (lastBy good u host q .unit)
+    last-on f reply good g report r = on (first .stage) refl (noted .reached)
+      where
+        on : (s : Stage) → first .stage ≡ s → Reached s (q .stage) (flushesAnswered host past) (replies host past)
+            → Follows past v (ends host reply report) (lastBy good u host q .unit)
+        on Straight e reached =
+            let x = lastBy good (nextEffect host begun) host first in
+            ends-on reply report (reply ∷ []) _ begun _ (x .unit) (got reply report false f ∙ ap (gets false reply) (reached .2))
+            (whole-once v (same .fine) (same .quiet) host below cdb _ _ q noted asked reply x (lastReport good first)
+            (last-taken (nextEffect host begun) host first reply good (straight-no-flush (v .unsaved) first e) g)
+            (last-report good (nextEffect host begun) host first))
+            (stand-once reply report _ _)
+            (both-last u v begun host q first same (ready-begun v (same .fine) (same .quiet) host below cdb _ _ q noted asked) good)
+            (mark-stays (λ h is. straight-flushing (h .count) (sym (reached .0) ∙ ap (λ (y : Request). y .stage) (sym is) ∙ h .stage)))
+        on (Flushing m) e reached =
+            let zero = begins-at-zero (q .target) (noFlush cdb) m e in
+            let p = flushCounted first in
+            let x = lastBy good (nextEffect host flushed) host p in
+            let means = last-means (heldAt255 (flushesAnswered host past)) (u .unsaved) (lastOf (q .target)) (rw (reached .0) at f) in
+            ends-on reply report (Good ∷ reply ∷ []) _ flushed _ (x .unit)
+            (got reply report false f ∙ ap (gets false reply) (reached .1 ∙ some-good (flushesAnswered host past) (means .0)))
+            (whole-twice v (same .fine) (same .quiet) host below cdb _ _ q noted asked zero reply x (lastReport good p)
+            (last-taken (nextEffect host flushed) host p reply good (flushed-due v (same .fine) (same .quiet) host below cdb _ _ q noted asked) g)
+            (last-report good (nextEffect host flushed) host p))
+            (stand-twice reply report _ _ _)
+            (both-last u v flushed host q p same (ready-flushed v (same .fine) (same .quiet) host below cdb _ _ q noted asked zero) good)
+            (inl (sym (means .1)))

@@ -1,0 +1,269 @@
+-- No byte left behind: the unsaved mark says whether every write is safe. An accepted write sets it and is not safe yet, a good flush clears it and
+-- makes all safe, a power-on clears it and leaves no write since, and every other call leaves the mark and each write as they were. And the last
+-- command of a flushing operation is due only with the mark clear.
+use mathlib.Core.Path.{_≡_, refl, sym, _∙_}
+use mathlib.Core.Bool.{Bool, true, false, and-false, or-true, true≢false, false≢true}
+use mathlib.Core.List.{List, [], _∷_}
+use mathlib.Core.Logic.{_↔_}
+use Prim.Native.Nat.{ℕ, zero, suc, _<_}
+use native.Mathlib.Omega.{arith}
+use lib.Dec.{eqb}
+use lib.ListN.{drop}
+use borrow.Author.Tests.{not-true}
+use Rattle.rows.proofs.Places.{and-left, and-right}
+use Rattle.drive.specs.declared.Made.{Made}
+use Rattle.epc.proofs.Effects.{either}
+use Rattle.unit.specs.Units.{slotOf, isOut, wellFormed}
+use Rattle.unit.specs.Refusals.{numberOf, lowest, settled}
+use Rattle.unit.specs.Calls.{notWellFormed, madeUnit, blank, manufactureOutcome}
+use Rattle.unit.specs.declared.Target.{Target}
+use Rattle.unit.specs.declared.Target.the-variants.{Stop, Start, GoTo}
+use Rattle.unit.specs.declared.Stage.the-variants.{Flushing}
+use Rattle.unit.specs.declared.Request.{Request}
+use Rattle.unit.specs.declared.Slot.the-variants.{Waiting}
+use Rattle.unit.specs.declared.Failure.the-variants.{CommandSequence}
+use Rattle.unit.specs.declared.Verdict.{Verdict}
+use Rattle.unit.specs.declared.Verdict.the-variants.{Clear, Given}
+use Rattle.unit.specs.declared.Unit.{Unit}
+use Rattle.bridge.specs.Cdb.{noFlush, stageFor}
+use Rattle.bridge.specs.Operations.{registersOf, lastOf, dueAt, dueFrom, isFlush, reportFailed, failed}
+use Rattle.bridge.specs.declared.Wanted.the-variants.{Wants}
+use Rattle.bridge.specs.declared.Due.{Due}
+use Rattle.bridge.specs.declared.Reply.{Reply}
+use Rattle.bridge.specs.declared.Reply.the-variants.{Good, Bad}
+use Rattle.bridge.specs.declared.Report.{Report}
+use Rattle.calls.specs.Calls.{Call, setFeatures, tick, read, write, powerOn, hardReset, softReset, requestSense, logPage, outcome, step, run}
+use Rattle.calls.proofs.WellFormed.{manufacture-well-formed}
+use Rattle.runs.specs.Deeds.{Deed, begins, sends, goesOn, ends, does, aborts, refuses, isPowerOn, isWrite, doesA}
+use Rattle.runs.specs.Past.{pastOf, cdbOf, flushSent, heldAt255}
+use Rattle.runs.specs.Serial.{nothingWaits}
+use Rattle.runs.specs.Safe.{latestPoweredOn, answeredGood, latestFlushed, Written, SincePowerOn, Safe, AllSafe, SomeUnsafe, flushing, asksFlush, latestIsLast, NoByteLeftBehind}
+use Rattle.runs.proofs.Deeds.{Taken, Cases, deedAt, by-deed}
+use Rattle.runs.proofs.Known.{along, Noted, Known, is-flush, sent-due, known-kept, known-at-first, nothing-waits}
+
+-- ---- what one more call makes of the writes
+
+module _ (d : Deed) (past : List Deed) where
+  -- Of a call that is no write, it is asked only whether the writes before it are safe.
+  all-before : doesA isWrite d ≡ false → ((i : ℕ) → Written past i → SincePowerOn (d ∷ past) (suc i) → Safe (d ∷ past) (suc i)) → AllSafe (d ∷ past)
+  all-before no-write safe zero written since = absurd (true≢false (sym written ∙ no-write))
+  all-before no-write safe (suc i) written since = safe i written since
+
+  -- What was safe stays safe.
+  safe-later : (i : ℕ) → Safe past i → Safe (d ∷ past) (suc i)
+  safe-later i (j, before, flushed) = (suc j, omega arith, flushed)
+
+  all-later : doesA isWrite d ≡ false → AllSafe past → AllSafe (d ∷ past)
+  all-later no-write all =
+      all-before no-write (λ i written since. safe-later i (all i written (λ j before. since (suc j) (omega arith))))
+
+  -- A good flush makes every write safe.
+  all-flushed : doesA isWrite d ≡ false → latestFlushed (d ∷ past) ≡ true → AllSafe (d ∷ past)
+  all-flushed no-write flushed = all-before no-write (λ i written since. (0, omega arith, flushed))
+
+  -- No write came since a power-on just now.
+  all-powered : doesA isWrite d ≡ false → doesA isPowerOn d ≡ true → AllSafe (d ∷ past)
+  all-powered no-write powered =
+      all-before no-write (λ i written since. absurd (true≢false (sym powered ∙ since 0 (omega arith))))
+
+  -- A write that was not safe stays so, but for a power-on or a good flush.
+  unsafe-later : doesA isPowerOn d ≡ false → latestFlushed (d ∷ past) ≡ false → SomeUnsafe past → SomeUnsafe (d ∷ past)
+  unsafe-later no-power no-flush some = record {
+    ago = suc (some .ago);
+    written = some .written;
+    since-power-on = since;
+    not-safe = not-safe;
+  }
+    where
+      since : (j : ℕ) → j < suc (some .ago) → latestPoweredOn (drop j (d ∷ past)) ≡ false
+      since zero before = no-power
+      since (suc j) before = some .since-power-on j (omega arith)
+
+      not-safe : Safe (d ∷ past) (suc (some .ago)) → ⊥
+      not-safe (zero, before, flushed) = true≢false (sym flushed ∙ no-flush)
+      not-safe (suc j, before, flushed) = some .not-safe (j, omega arith, flushed)
+
+  -- A write just accepted is not safe.
+  unsafe-written : doesA isWrite d ≡ true → SomeUnsafe (d ∷ past)
+  unsafe-written wrote = record {
+    ago = 0;
+    written = wrote;
+    since-power-on = λ j before. absurd (omega arith);
+    not-safe = λ safe. omega (arith, safe .1);
+  }
+
+-- ---- the mark and the past
+
+-- What the unsaved mark says of the past.
+abbrev pub Marked : List Deed → Bool → Type 0
+Marked past false = AllSafe past
+Marked past true = SomeUnsafe past
+
+contradict : {A : Type 0} (past : List Deed) → AllSafe past → SomeUnsafe past → A
+contradict past all some = absurd (some .not-safe (all (some .ago) (some .written) (some .since-power-on)))
+
+unsaved-told : (past : List Deed) (mark : Bool) → Marked past mark → (mark ≡ true) ↔ SomeUnsafe past
+unsaved-told past false all = (λ e. absurd (false≢true e), contradict past all)
+unsaved-told past true some = (λ e. some, λ s. refl)
+
+saved-told : (past : List Deed) (mark : Bool) → Marked past mark → (mark ≡ false) ↔ AllSafe past
+saved-told past false all = (λ e. all, λ a. refl)
+saved-told past true some = (λ e. absurd (true≢false e), λ all. contradict past all some)
+
+-- A call that is no write, no power-on and no good flush leaves what the mark says.
+marked-later : (d : Deed) (past : List Deed) (mark : Bool) → doesA isWrite d ≡ false → doesA isPowerOn d ≡ false → latestFlushed (d ∷ past) ≡ false
+    → Marked past mark → Marked (d ∷ past) mark
+marked-later d past false no-write no-power no-flush all = all-later d past no-write all
+marked-later d past true no-write no-power no-flush some = unsafe-later d past no-power no-flush some
+
+-- ---- the last command of a flushing operation
+
+flushing-begun : (t : Target) (without : Bool) → flushing (Wants t) without ≡ true → stageFor t without ≡ Flushing 0
+flushing-begun Stop true h = absurd (false≢true h)
+flushing-begun Stop false h = refl
+flushing-begun Start without h = absurd (false≢true h)
+flushing-begun (GoTo c) true h = absurd (false≢true h)
+flushing-begun (GoTo c) false h = refl
+
+due-saved : (n : ℕ) (unsaved : Bool) (last : Due) → isFlush (dueAt (Flushing n) unsaved last) ≡ false → unsaved ≡ false
+due-saved n false last h = refl
+due-saved n true last h = absurd (true≢false (simp or-true at h))
+
+-- Where a flushing operation has another command due than a flush, the mark is clear.
+noted-saved : {cdb : List ℕ} {n : ℕ} {answers : List Reply} {q : Request} → Noted cdb n answers q → asksFlush cdb ≡ true
+    → (unsaved : Bool) → isFlush (dueFrom unsaved q) ≡ false → unsaved ≡ false
+noted-saved {cdb} {n} {answers} {q} noted asks unsaved last =
+    let begun = flushing-begun (q .target) (noFlush cdb) (rw (noted .wants) at asks) in
+    let now = (rw begun at (noted .reached)) .0 in
+    due-saved (heldAt255 n) unsaved (lastOf (q .target)) (rw now at last)
+
+-- ---- each call
+
+-- What is kept along a run: what the mark says of the past, and that it is clear when the last command of a flushing operation was handed out or
+-- answered just now.
+abbrev Says : List Deed → Bool → Type 0
+Says past mark = Marked past mark × (latestIsLast past ≡ true → mark ≡ false)
+
+module _ (past : List Deed) (u : Unit) (known : Known past u) (marked : Marked past (u .unsaved)) where
+  abbrev After : Deed → Unit → Type 0
+  After d v = Says (d ∷ past) (v .unsaved)
+
+  -- A call that bears on no write: it is no write, no power-on, no good answer and no last command.
+  quiet : (d : Deed) → doesA isWrite d ≡ false → doesA isPowerOn d ≡ false → answeredGood d ≡ false → latestIsLast (d ∷ past) ≡ false → After d u
+  quiet d no-write no-power no-answer no-last = (
+    marked-later d past (u .unsaved) no-write no-power (rw no-answer (and-false (flushSent past))) marked,
+    λ last. absurd (true≢false (sym last ∙ no-last)),
+  )
+
+  asked-says : (host : ℕ) (q : Request) → slotOf (u .slots) host ≡ Waiting q → After (sends host (registersOf (dueFrom (u .unsaved) q))) u
+  asked-says host q waits = (
+    marked-later _ past (u .unsaved) refl refl (and-false (flushSent past)) marked,
+    λ last.
+        noted-saved (known .1 host q waits) (and-left asks _ last) (u .unsaved)
+        (sym (is-flush (dueFrom (u .unsaved) q)) ∙ not-true _ (and-right asks _ last)),
+  )
+    where
+      asks : Bool
+      asks = asksFlush (cdbOf host past)
+
+  flushed-says : (host : ℕ) (q : Request) → Taken u host q → isFlush (dueFrom (u .unsaved) q) ≡ true → Says (goesOn host Good ∷ past) false
+  flushed-says host q taken f =
+      (all-flushed (goesOn host Good) past refl (rw (sent-due past u known host q taken, f)), λ last. refl)
+
+  -- A bad flush.
+  bad-says : (host : ℕ) (report : Report) → After (ends host Bad report) u
+  bad-says host report = quiet (ends host Bad report) refl refl refl (and-false (asksFlush (cdbOf host past)))
+
+  -- The answer to the last command, good or bad: it is no answer to a flush.
+  last-says : (host : ℕ) (reply : Reply) (report : Report) (q : Request) → Taken u host q → isFlush (dueFrom (u .unsaved) q) ≡ false
+      → After (ends host reply report) u
+  last-says host reply report q taken f = (
+    marked-later (ends host reply report) past (u .unsaved) refl refl (rw (sent-due past u known host q taken, f)) marked,
+    λ last. noted-saved (known .1 host q (taken .waiting)) (and-left (asksFlush (cdbOf host past)) _ last) (u .unsaved) f,
+  )
+
+  -- A failure that is held leaves the mark too.
+  failed-says : (host : ℕ) (reply : Reply) (q : Request) (n : ℕ) → let report = reportFailed (q .immed) CommandSequence n in
+      After (ends host reply report) u → After (ends host reply report) (failed u host q CommandSequence n .unit)
+  failed-says host reply q n says = either (After (ends host reply (reportFailed (q .immed) CommandSequence n))) (q .immed) _ _ says says
+
+  says : Cases After u
+  says = record {
+    refused = λ c. quiet (refuses c) refl refl refl refl;
+    aborted = λ q a. quiet (aborts (setFeatures q)) refl refl refl refl;
+    begun = λ host cdb t clear wants. quiet (begins host cdb) refl refl refl refl;
+    asked = λ host q clear. asked-says host q;
+    flushed = flushed-says;
+    flush-failed = λ host q taken f. failed-says host Bad q _ (bad-says host _);
+    last-succeeded = λ host reply q taken f g. last-says host reply _ q taken f;
+    last-failed = λ host reply q taken f g. failed-says host reply q _ (last-says host reply _ q taken f);
+    epc = λ q clear. quiet (does (setFeatures q)) refl refl refl refl;
+    ticks = either (After (does tick)) (isOut (u .out)) _ _ (quiet (does tick) refl refl refl refl) (quiet (does tick) refl refl refl refl);
+    reads = λ host clear. quiet (does (read host)) refl refl refl refl;
+    writes = λ host clear. (unsafe-written (does (write host)) past refl, λ last. absurd (false≢true last));
+    powers-on = (all-powered (does powerOn) past refl refl, λ last. refl);
+    resets-hard = quiet (does hardReset) refl refl refl refl;
+    resets-soft = quiet (does softReset) refl refl refl refl;
+    tells = λ host buffer clear. quiet (does (requestSense host buffer)) refl refl refl refl;
+    logs = λ buffer clear. quiet (does (logPage buffer)) refl refl refl refl;
+  }
+
+-- ---- over any run from a well-formed record with nothing waiting and the mark clear
+
+abbrev Told : List Deed → Unit → Type 0
+Told past u = Known past u × Says past (u .unsaved)
+
+told-kept : (past : List Deed) (u : Unit) (c : Call) → Told past u → Told (deedAt u c ∷ past) (step u c)
+told-kept past u c (known, (marked, last)) =
+    (known-kept past u c known, by-deed (After past u known marked) u (says past u known marked) c)
+
+abbrev pub AtRest : Unit → Type 0
+AtRest u = (wellFormed u ≡ true) × (nothingWaits u ≡ true) × (u .unsaved ≡ false)
+
+-- Nothing is written yet.
+told-at-first : (u : Unit) → AtRest u → Told [] u
+told-at-first u (fine, none, saved) = (known-at-first u fine (nothing-waits u none), rw saved (all, λ last. refl))
+  where
+    all : AllSafe []
+    all zero written since = absurd (false≢true written)
+    all (suc i) written since = absurd (false≢true written)
+
+module _ (u : Unit) (rest : AtRest u) (cs : List Call) where
+  told : Told (pastOf u cs) (run u cs)
+  told = along Told told-kept [] u cs (told-at-first u rest)
+
+  -- The mark is set exactly when some write accepted since the last power-on is not safe.
+  pub unsaved-exactly-from : (run u cs .unsaved ≡ true) ↔ SomeUnsafe (pastOf u cs)
+  unsaved-exactly-from = unsaved-told (pastOf u cs) (run u cs .unsaved) (told .1 .0)
+
+  -- It is clear exactly when every one is.
+  pub saved-exactly-from : (run u cs .unsaved ≡ false) ↔ AllSafe (pastOf u cs)
+  saved-exactly-from = saved-told (pastOf u cs) (run u cs .unsaved) (told .1 .0)
+
+  -- Every one is when a flushing operation's last command goes out, and when it is answered good.
+  pub last-all-safe : latestIsLast (pastOf u cs) ≡ true → AllSafe (pastOf u cs)
+  last-all-safe last = saved-exactly-from .0 (told .1 .1 last)
+
+-- ---- from manufacture on
+
+-- A unit is made at rest, whether it is the one asked for or the blank one.
+pub made-at-rest : (ms : List Made) → AtRest (manufactureOutcome ms .unit)
+unfolding manufactureOutcome
+made-at-rest ms = let rest = on (lowest (notWellFormed (madeUnit ms) ∷ [])) in (manufacture-well-formed ms, rest .0, rest .1)
+  where
+    on : (v : Verdict) → let u = settled blank (madeUnit ms) v .unit in (nothingWaits u ≡ true) × (u .unsaved ≡ false)
+    on Clear = (refl, refl)
+    on (Given r) = either (λ (u : Unit). (nothingWaits u ≡ true) × (u .unsaved ≡ false)) (eqb (numberOf r) 10) _ _ (refl, refl) (refl, refl)
+
+-- The unsaved mark is set exactly when some write accepted since the last power-on is not safe, and clear exactly when every one is.
+pub unsaved-exactly : (ms : List Made) (cs : List Call) → let u = manufactureOutcome ms .unit in
+    (run u cs .unsaved ≡ true) ↔ SomeUnsafe (pastOf u cs)
+unsaved-exactly ms = unsaved-exactly-from _ (made-at-rest ms)
+
+pub saved-exactly : (ms : List Made) (cs : List Call) → let u = manufactureOutcome ms .unit in
+    (run u cs .unsaved ≡ false) ↔ AllSafe (pastOf u cs)
+saved-exactly ms = saved-exactly-from _ (made-at-rest ms)
+
+-- No byte is left behind.
+pub no-byte-left-behind : NoByteLeftBehind outcome
+no-byte-left-behind ms = last-all-safe _ (made-at-rest ms)

@@ -1,0 +1,342 @@
+-- Demand 3, one call at a time: beside the real record u stands the serial one v, in which nothing ever waits. Settings, stopped mark and held senses
+-- are always the same; condition and idle count whenever nothing waits in u, for an operation's last answer sets both by itself. The unsaved mark is the
+-- same too, but that a waiting operation's good flush may have cleared it in u alone; when that operation ends, its flush is run in v.
+use mathlib.Core.Path.{_≡_, refl, sym, ap, _∙_}
+use mathlib.Core.Bool.{Bool, true, false, not, _||_, cond, true≢false, false≢true}
+use mathlib.Core.List.{List, [], _∷_, _++_, append-nil}
+use mathlib.Core.Logic.{_⊎_, inl, inr, ⊎-elim}
+use Prim.Native.Nat.{ℕ, zero, suc}
+use native.Mathlib.Omega.{arith}
+use lib.Dec.{eqb, ltb}
+use lib.ListN.{length, set, replicate}
+use borrow.Author.Tests.{eq-eqb, eqb-true, not-false}
+use Rattle.rows.specs.Rows.{everyAt}
+use Rattle.drive.specs.Records.{largest}
+use Rattle.drive.specs.Drives.{ticked, used, poweredOn}
+use Rattle.drive.specs.declared.Record.{Record}
+use Rattle.drive.specs.declared.Tenths.{Tenths}
+use Rattle.drive.specs.declared.Power.{Power}
+use Rattle.drive.specs.declared.Drive.{Drive}
+use Rattle.drive.proofs.Ticks.{tick-records}
+use Rattle.epc.specs.Epc.{aborts as epcAborts, performed}
+use Rattle.epc.specs.declared.Registers.{Registers}
+use Rattle.epc.proofs.Effects.{either, records-after}
+use Rattle.unit.specs.Units.{emptySlot, slotOf, isWaiting, isOut, wellFormed, withDrive, withSlot, rested}
+use Rattle.unit.specs.Refusals.{lowest}
+use Rattle.unit.specs.Calls.{epcRows, tickRows, mediumRows, resetRows, senseRows, logRows, epcEffect, tickEffect, readEffect, writeEffect, powerOnEffect, hardResetEffect, senseEffect}
+use Rattle.unit.specs.declared.Refusal.the-variants.{Aborted}
+use Rattle.unit.specs.declared.Verdict.the-variants.{Clear, Given}
+use Rattle.unit.specs.declared.Target.{Target}
+use Rattle.unit.specs.declared.Stage.{Stage}
+use Rattle.unit.specs.declared.Stage.the-variants.{Straight, Flushing}
+use Rattle.unit.specs.declared.Request.{Request}
+use Rattle.unit.specs.declared.Slot.{Slot}
+use Rattle.unit.specs.declared.Slot.the-variants.{Empty, Waiting}
+use Rattle.unit.specs.declared.HostSlot.{HostSlot}
+use Rattle.unit.specs.declared.HostHeld.{HostHeld}
+use Rattle.unit.specs.declared.Failure.{Failure}
+use Rattle.unit.specs.declared.Failure.the-variants.{CommandSequence}
+use Rattle.unit.specs.declared.Out.the-variants.{NoneOut}
+use Rattle.unit.specs.declared.Unit.{Unit}
+use Rattle.bridge.specs.Cdb.{wanted, requestFor}
+use Rattle.bridge.specs.Operations.{dueFrom, isFlush, oneMore, flushesOf, heldIf, flushCounted, flushedWell, failed, succeeded, countsAsGood, answeredFor}
+use Rattle.bridge.specs.Bridge.{startStopRows, nextRows, nextEffect, answerRows}
+use Rattle.bridge.specs.declared.Wanted.the-variants.{Wants}
+use Rattle.bridge.specs.declared.Reply.{Reply}
+use Rattle.bridge.specs.declared.Reply.the-variants.{Good, Bad}
+use Rattle.calls.specs.Calls.{Call, setFeatures, tick, read, write, powerOn, hardReset, softReset, requestSense, logPage, Said, outcome, step, run}
+use Rattle.calls.specs.Table.{verdictIn}
+use Rattle.calls.specs.Numbers.{ownRows, effect}
+use Rattle.calls.proofs.Numbers.{clear-none, own-told, refusal-keeps, own-effect}
+use Rattle.calls.proofs.Hosts.{own-slot, other-slot}
+use Rattle.calls.proofs.WellFormed.{unit-fine, well-formed-kept, run-well-formed}
+use Rattle.runs.specs.Deeds.{Deed, begins, sends, goesOn, ends, does, aborts, refuses, another, deedOf, isReset, doesA}
+use Rattle.runs.specs.Past.{cdbOf, replies}
+use Rattle.runs.specs.Serial.{whole, inPlaceOf, gather, refusedIn, otherIn, begunIn, beginnerIn, enderIn}
+use Rattle.runs.proofs.Deeds.{Taken, Cases, deedAt, by-deed}
+use Rattle.runs.proofs.Known.{Noted, Known, inside, empty-waits, none-waits}
+use Rattle.runs.proofs.Whole.{Quiet, quiet-out, RunsTo, runs-nothing, runs-on, Ready}
+
+-- ---- the two records
+
+-- The unsaved mark is clear by a good flush of an operation that still waits.
+pub record Helped (slots : List HostSlot) (unsaved : Bool) : Type 0 where
+  pub saved : unsaved ≡ false
+  pub host : ℕ
+  pub request : Request
+  pub waits : slotOf slots host ≡ Waiting request
+  pub count : ℕ
+  pub stage : request .stage ≡ Flushing count
+  pub some : eqb count 0 ≡ false
+
+-- The unsaved mark of the serial record beside that of the real one, with the real one's slots.
+abbrev pub SameMark : List HostSlot → Bool → Bool → Type 0
+SameMark slots mark mark' = (mark' ≡ mark) ⊎ Helped slots mark
+
+pub record Same (u v : Unit) : Type 0 where
+  pub fine : wellFormed v ≡ true
+  pub quiet : Quiet v
+  pub records : v .drive .records ≡ u .drive .records
+  pub stopped : v .stopped ≡ u .stopped
+  pub held : v .held ≡ u .held
+  pub unsaved : SameMark (u .slots) (u .unsaved) (v .unsaved)
+  pub at-rest : Quiet u → (v .drive .power ≡ u .drive .power) × (v .drive .idle ≡ u .drive .idle)
+
+-- A slot is set, and it is not that of the operation that helped.
+pub mark-beside : (slots : List HostSlot) (mark mark' : Bool) (host : ℕ) (s : Slot) → ((h : Helped slots mark) → h .host ≡ host → ⊥)
+    → SameMark slots mark mark' → SameMark (set slots host (record { slot = s })) mark mark'
+mark-beside slots mark mark' host s other (inl e) = inl e
+mark-beside slots mark mark' host s other (inr h) = inr (record {
+  saved = h .saved;
+  host = h .host;
+  request = h .request;
+  waits = other-slot host (h .host) (other h) slots s ∙ h .waits;
+  count = h .count;
+  stage = h .stage;
+  some = h .some;
+})
+
+-- Where nothing waits nobody can have helped.
+pub mark-at-rest : (u v : Unit) → Quiet u → SameMark (u .slots) (u .unsaved) (v .unsaved) → v .unsaved ≡ u .unsaved
+mark-at-rest u v quiet (inl e) = e
+mark-at-rest u v quiet (inr h) = empty-waits (h .request) (sym (quiet (h .host)) ∙ h .waits)
+
+drive-same : (d e : Drive) → d .records ≡ e .records → d .power ≡ e .power → d .idle ≡ e .idle → d ≡ e
+drive-same d e r p i =
+    ap (λ (x : List Record). record { records = x; power = d .power; idle = d .idle }) r
+    ∙ ap (λ (x : Power). record { records = e .records; power = x; idle = d .idle }) p
+    ∙ ap (λ (x : Tenths). record { records = e .records; power = e .power; idle = x }) i
+
+-- ---- what stands in the serial run for one call of the real one
+
+-- The deeds of the calls that stand for a deed: none is refused; the same other call, as it was; one START STOP UNIT for a last answer, with its CDB.
+abbrev pub endedIn : ℕ → List Deed → Deed → List (List ℕ)
+endedIn k past (begins host cdb) = []
+endedIn k past (sends host q) = []
+endedIn k past (goesOn host reply) = []
+endedIn k past (ends host reply report) = cond (eqb host k) (cdbOf host past ∷ []) []
+endedIn k past (does c) = []
+endedIn k past (aborts c) = []
+endedIn k past (refuses c) = []
+
+pub record StandFor (past : List Deed) (d : Deed) (ds : List Deed) : Type 0 where
+  pub none-refused : gather refusedIn ds ≡ []
+  pub same-others : gather otherIn ds ≡ otherIn d
+  pub beginner : gather beginnerIn ds ≡ enderIn d
+  pub begun : (k : ℕ) → gather (begunIn k) ds ≡ endedIn k past d
+
+pub record Follows (past : List Deed) (v : Unit) (d : Deed) (u' : Unit) : Type 0 where
+  pub ds : List Deed
+  pub v' : Unit
+  pub runs : RunsTo v (inPlaceOf past d) ds v'
+  pub same : Same u' v'
+  pub stand : StandFor past d ds
+
+-- ---- a call that is no part of an operation, made on the serial record too
+
+pub accepted-here : (v : Unit) (c : Call) → ((said : Said) → deedOf c said ≡ another c (verdictIn said)) → lowest (ownRows v c) ≡ Clear
+    → RunsTo v (c ∷ []) (does c ∷ []) (effect v c)
+accepted-here v c other clear =
+    runs-on v (effect v c) (effect v c) c (does c) [] [] (other (outcome v c .said) ∙ ap (another c) (own-told v c ∙ clear)) (own-effect v c clear .0)
+    (runs-nothing (effect v c))
+
+aborted-here : (v : Unit) (q : Registers) → lowest (epcRows v q) ≡ Given Aborted → RunsTo v (setFeatures q ∷ []) (aborts (setFeatures q) ∷ []) (rested v)
+aborted-here v q ten =
+    let told = own-told v (setFeatures q) ∙ ten in
+    runs-on v (rested v) (rested v) (setFeatures q) (aborts (setFeatures q)) [] [] (ap (another (setFeatures q)) told)
+    (refusal-keeps v (setFeatures q) Aborted told .0) (runs-nothing (rested v))
+
+pub left-fine : (v w : Unit) (cs : List Call) (ds : List Deed) → wellFormed v ≡ true → RunsTo v cs ds w → wellFormed w ≡ true
+left-fine v w cs ds fine runs = rw (← runs .left) (run-well-formed v cs fine)
+
+module _ (past : List Deed) (u v : Unit) (fine : wellFormed u ≡ true) (same : Same u v) where
+  none-out : v .out ≡ NoneOut
+  none-out = quiet-out v (same .fine) (same .quiet)
+
+  abbrev pub Stands : Deed → Unit → Type 0
+  Stands d u' = (doesA isReset d ≡ true → Quiet u) → Follows past v d u'
+
+  -- Nothing stands for the call in the serial run.
+  pub nothing : (d : Deed) (u' : Unit) → inPlaceOf past d ≡ [] → StandFor past d [] → Same u' v → Follows past v d u'
+  nothing d u' none f s = record { ds = []; v' = v; runs = rw none (runs-nothing v); same = s; stand = f }
+
+  -- The call itself stands for it.
+  itself : (c : Call) (u' v' : Unit) → ((said : Said) → deedOf c said ≡ another c (verdictIn said)) → lowest (ownRows v c) ≡ Clear
+      → effect v c ≡ v' → (wellFormed v' ≡ true → Same u' v') → Follows past v (does c) u'
+  itself c u' v' other clear leaves s =
+      let runs = rw leaves at (accepted-here v c other clear) in
+      record {
+        ds = does c ∷ [];
+        v' = v';
+        runs = runs;
+        same = s (left-fine v v' _ _ (same .fine) runs);
+        stand = record { none-refused = refl; same-others = refl; beginner = refl; begun = λ k. refl };
+      }
+
+  -- ---- the drive's own calls
+
+  drives-same : Quiet u → v .drive ≡ u .drive
+  drives-same quiet = drive-same (v .drive) (u .drive) (same .records) (same .at-rest quiet .0) (same .at-rest quiet .1)
+
+  tick-clear : lowest (tickRows v) ≡ Clear
+  unfolding lowest
+  tick-clear = rw (same .fine)
+
+  ticked-same : (b : Bool) → isOut (u .out) ≡ b → wellFormed (withDrive (ticked largest (v .drive)) v) ≡ true
+      → Same (cond b u (withDrive (ticked largest (u .drive)) u)) (withDrive (ticked largest (v .drive)) v)
+  ticked-same true out ok = record {
+    fine = ok;
+    quiet = same .quiet;
+    records = tick-records largest (v .drive) ∙ same .records;
+    stopped = same .stopped;
+    held = same .held;
+    unsaved = same .unsaved;
+    at-rest = λ quiet. absurd (false≢true (sym (ap isOut (quiet-out u fine quiet)) ∙ out));
+  }
+  ticked-same false out ok = record {
+    fine = ok;
+    quiet = same .quiet;
+    records = tick-records largest (v .drive) ∙ same .records ∙ sym (tick-records largest (u .drive));
+    stopped = same .stopped;
+    held = same .held;
+    unsaved = same .unsaved;
+    at-rest = λ quiet. (rw (drives-same quiet), rw (drives-same quiet));
+  }
+
+  pub ticks-on : Stands (does tick) (tickEffect u)
+  ticks-on r =
+      itself tick (tickEffect u) (withDrive (ticked largest (v .drive)) v) (λ said. refl) tick-clear (rw none-out)
+      (ticked-same (isOut (u .out)) refl)
+
+  epc-clear : (q : Registers) → lowest (epcRows u q) ≡ Clear → lowest (epcRows v q) ≡ Clear
+  unfolding lowest
+  epc-clear q clear = rw (same .fine, none-out, same .records, clear-none (epcRows u q) clear 2)
+
+  records-same : (q : Registers) → performed q (v .drive) .records ≡ performed q (u .drive) .records
+  records-same q = records-after q (v .drive) ∙ rw (same .records) (sym (records-after q (u .drive)))
+
+  pub epc-on : (q : Registers) → lowest (epcRows u q) ≡ Clear → Stands (does (setFeatures q)) (epcEffect q u)
+  epc-on q clear r = itself (setFeatures q) (epcEffect q u) (epcEffect q v) (λ said. refl) (epc-clear q clear) refl (λ ok. record {
+    fine = ok;
+    quiet = same .quiet;
+    records = records-same q;
+    stopped = same .stopped;
+    held = same .held;
+    unsaved = same .unsaved;
+    at-rest = λ quiet. (rw (drives-same quiet), rw (drives-same quiet));
+  })
+
+  aborts-clear : (q : Registers) → epcAborts q (u .drive .records) ≡ true → lowest (epcRows v q) ≡ Given Aborted
+  unfolding lowest
+  aborts-clear q ten = rw (same .fine, none-out, same .records, ten)
+
+  pub aborts-on : (q : Registers) → epcAborts q (u .drive .records) ≡ true → Stands (aborts (setFeatures q)) (rested u)
+  aborts-on q ten r =
+      let runs = aborted-here v q (aborts-clear q ten) in
+      record {
+        ds = aborts (setFeatures q) ∷ [];
+        v' = rested v;
+        runs = runs;
+        same = record {
+          fine = left-fine v (rested v) _ _ (same .fine) runs;
+          quiet = same .quiet;
+          records = same .records;
+          stopped = same .stopped;
+          held = same .held;
+          unsaved = same .unsaved;
+          at-rest = λ quiet. (same .at-rest quiet .0, refl);
+        };
+        stand = record { none-refused = refl; same-others = refl; beginner = refl; begun = λ k. refl };
+      }
+
+  -- ---- the medium
+
+  medium-clear : (host : ℕ) → lowest (mediumRows u host) ≡ Clear → lowest (mediumRows v host) ≡ Clear
+  unfolding lowest
+  medium-clear host clear =
+      rw (clear-none (mediumRows u host) clear 0, same .fine, none-out, same .stopped, clear-none (mediumRows u host) clear 3)
+
+  pub reads-on : (host : ℕ) → lowest (mediumRows u host) ≡ Clear → Stands (does (read host)) (readEffect u)
+  unfolding used
+  reads-on host clear r = itself (read host) (readEffect u) (readEffect v) (λ said. refl) (medium-clear host clear) refl (λ ok. record {
+    fine = ok;
+    quiet = same .quiet;
+    records = same .records;
+    stopped = same .stopped;
+    held = same .held;
+    unsaved = same .unsaved;
+    at-rest = λ quiet. (refl, refl);
+  })
+
+  pub writes-on : (host : ℕ) → lowest (mediumRows u host) ≡ Clear → Stands (does (write host)) (writeEffect u)
+  unfolding used
+  writes-on host clear r = itself (write host) (writeEffect u) (writeEffect v) (λ said. refl) (medium-clear host clear) refl (λ ok. record {
+    fine = ok;
+    quiet = same .quiet;
+    records = same .records;
+    stopped = same .stopped;
+    held = same .held;
+    unsaved = inl refl;
+    at-rest = λ quiet. (refl, refl);
+  })
+
+  -- ---- resets, which fall where nothing waits
+
+  reset-clear : lowest (resetRows v) ≡ Clear
+  unfolding lowest
+  reset-clear = rw (same .fine)
+
+  pub powers-on : Stands (does powerOn) (powerOnEffect u)
+  unfolding poweredOn used
+  powers-on r = itself powerOn (powerOnEffect u) (powerOnEffect v) (λ said. refl) reset-clear refl (λ ok. record {
+    fine = ok;
+    quiet = none-waits;
+    records = rw (same .records);
+    stopped = refl;
+    held = refl;
+    unsaved = inl refl;
+    at-rest = λ quiet. (refl, refl);
+  })
+
+  reset-same : Quiet u → wellFormed (hardResetEffect v) ≡ true → Same (hardResetEffect u) (hardResetEffect v)
+  reset-same quiet ok = record {
+    fine = ok;
+    quiet = none-waits;
+    records = same .records;
+    stopped = same .stopped;
+    held = refl;
+    unsaved = inl (mark-at-rest u v quiet (same .unsaved));
+    at-rest = λ q. (same .at-rest quiet .0, refl);
+  }
+
+  pub resets-hard : Stands (does hardReset) (hardResetEffect u)
+  resets-hard r = itself hardReset _ (hardResetEffect v) (λ said. refl) reset-clear refl (reset-same (r refl))
+
+  pub resets-soft : Stands (does softReset) (hardResetEffect u)
+  resets-soft r = itself softReset _ (hardResetEffect v) (λ said. refl) reset-clear refl (reset-same (r refl))
+
+  -- ---- sense and log
+
+  sense-clear : (host : ℕ) (buffer : List ℕ) → lowest (senseRows u host buffer) ≡ Clear → lowest (senseRows v host buffer) ≡ Clear
+  unfolding lowest
+  sense-clear host buffer clear =
+      rw (clear-none (senseRows u host buffer) clear 0, clear-none (senseRows u host buffer) clear 1, same .fine, none-out)
+
+  pub tells-on : (host : ℕ) (buffer : List ℕ) → lowest (senseRows u host buffer) ≡ Clear → Stands (does (requestSense host buffer)) (senseEffect host u)
+  tells-on host buffer clear r =
+      itself (requestSense host buffer) (senseEffect host u) (senseEffect host v) (λ said. refl) (sense-clear host buffer clear) refl (λ ok. record {
+        fine = ok;
+        quiet = same .quiet;
+        records = same .records;
+        stopped = same .stopped;
+        held = rw (same .held);
+        unsaved = same .unsaved;
+        at-rest = λ quiet. (same .at-rest quiet .0, refl);
+      })
+
+  log-clear : (buffer : List ℕ) → lowest (logRows u buffer) ≡ Clear → lowest (logRows v buffer) ≡ Clear
+  unfolding lowest
+  log-clear buffer clear = rw (clear-none (logRows u buffer) clear 0, same .fine)
+
+  pub logs-on : (buffer : List ℕ) → lowest (logRows u buffer) ≡ Clear → Stands (does (logPage buffer)) u
+  logs-on buffer clear r = itself (logPage buffer) u v (λ said. refl) (log-clear buffer clear) refl (λ ok. same)

@@ -1,0 +1,166 @@
+-- Each wrong program is refuted by a run that is computed: the predicate it should fail is taken at that run, and one part of what it says there
+-- is false. Where demand 3 does not see a wrong program, that is shown too.
+use mathlib.Core.Bool.{true, false, true≢false, false≢true}
+use mathlib.Core.Path.{_≡_, refl, ap}
+use mathlib.Core.List.{List, [], _∷_}
+use Prim.Native.Nat.{ℕ}
+use native.Mathlib.Omega.{arith}
+use lib.ListN.{getD, replicate}
+use Rattle.drive.specs.Conditions.{depth}
+use Rattle.drive.specs.declared.Condition.the-variants.{StandbyZ}
+use Rattle.drive.specs.declared.Cause.the-variants.{Command}
+use Rattle.drive.specs.declared.Power.the-variants.{Low}
+use Rattle.unit.specs.Units.{noneHeld}
+use Rattle.unit.specs.declared.Refusal.the-variants.{BadRecord, OwnWaiting}
+use Rattle.unit.specs.declared.Unit.{Unit}
+use Rattle.bridge.specs.declared.Next.the-variants.{Send, NotSent}
+use Rattle.bridge.specs.declared.Reply.the-variants.{Good, Bad}
+use Rattle.calls.specs.Calls.{Call, setFeatures, tick, read, write, powerOn, hardReset, softReset, startStop, next, answer, requestSense, logPage, Said, plain, accepted, sent, progressed, Outcome, StepFunction, runBy, historyBy, run}
+use Rattle.calls.specs.Examples.{*g20, *l, *m, fresh, quiet, epc, Examples}
+use Rattle.calls.specs.Numbers.{Numbers}
+use Rattle.runs.specs.Deeds.{Deed, refuses, deedOf, deeds}
+use Rattle.runs.specs.Serial.{serialAfter, serial, nothingWaits, resetsAtRest, Compared, compared, Demand3}
+use Rattle.runs.specs.FlushCount.{FlushCount}
+use Rattle.runs.specs.WrongSteps.{flushesOnce, clearsMark, keepsPower, badFlushSaves, refusesAll, oneForAll, inventsCount, alwaysActive}
+use Rattle.runs.proofs.Computed.{computed}
+
+abbrev stop : ℕ → Call
+stop host = startStop host (0x1B ∷ 0 ∷ 0 ∷ 0 ∷ 0 ∷ 0 ∷ [])
+
+-- A new unit after a stop that went well: parked, with nothing unsaved and nothing held.
+abbrev parked : Compared
+parked = record {
+  settings = replicate 5 quiet;
+  power = Low StandbyZ Command;
+  idle = record { 0 = 0 };
+  stopped = true;
+  unsaved = false;
+  held = replicate 4 noneHeld;
+}
+
+-- Demand 3 on one run from the new unit: what it takes for granted of the run holds, and the real and the serial run both leave the parked unit.
+abbrev Agrees : StepFunction → List Call → Type 0
+Agrees by cs =
+    (resetsAtRest by fresh cs ≡ true) × (nothingWaits (runBy by fresh cs) ≡ true)
+    × (compared (runBy by fresh cs) ≡ parked)
+    × (compared (run fresh (serial (historyBy by fresh cs))) ≡ parked)
+
+-- ---- "one that flushes once and skips every later flush fails example m and demand 3"
+
+-- The command that a host is handed; 0 where it is handed none.
+abbrev commandIn : Said → ℕ
+commandIn (plain a) = 0
+commandIn (accepted a) = 0
+commandIn (sent (Send q)) = q .command
+commandIn (sent (NotSent r)) = 0
+commandIn (progressed p) = 0
+
+-- Where E7h is due again, E0h is sent.
+pub flushes-once-fails-m : Examples flushesOnce → ⊥
+unfolding computed
+flushes-once-fails-m holds = let shown : _≡_ {A = ℕ} 0xE0 0xE7 = ap commandIn (holds *m) in omega arith
+
+-- Example m's run, up to the end of the stop.
+abbrev writeBetween : List Call
+writeBetween = stop 0 ∷ next 0 ∷ answer 0 Good ∷ write 1 ∷ next 0 ∷ answer 0 Good ∷ []
+
+-- It stops with the write unsaved; in the serial run the write comes before the stop's flush.
+pub flushes-once-fails-demand-3 : Demand3 flushesOnce → ⊥
+unfolding computed
+flushes-once-fails-demand-3 holds =
+    true≢false (ap (λ (k : Compared). k .unsaved) (holds fresh writeBetween refl refl refl refl))
+
+-- The one that also clears the mark sends no second flush either,
+pub clears-mark-fails-m : Examples clearsMark → ⊥
+unfolding computed
+clears-mark-fails-m holds = let shown : _≡_ {A = ℕ} 0xE0 0xE7 = ap commandIn (holds *m) in omega arith
+
+-- but demand 3 compares marks and not the commands sent: on that same run it sees nothing.
+pub clears-mark-agrees : Agrees clearsMark writeBetween
+unfolding computed
+clears-mark-agrees = (refl, refl, refl, refl)
+
+-- ---- failures
+
+-- From Idle_B a stop whose flush is bad leaves Active.
+pub keeps-power-fails-demand-3 : Demand3 keepsPower → ⊥
+unfolding computed
+keeps-power-fails-demand-3 holds =
+    let shown : _≡_ {A = ℕ} 2 0 =
+    ap (λ (k : Compared). depth (k .power)) (holds fresh (epc 0x82 0x1 ∷ stop 0 ∷ next 0 ∷ answer 0 Bad ∷ []) refl refl refl refl)
+    in
+    omega arith
+
+-- A write stays unsaved through a bad flush.
+pub bad-flush-saves-fails-demand-3 : Demand3 badFlushSaves → ⊥
+unfolding computed
+bad-flush-saves-fails-demand-3 holds =
+    false≢true (ap (λ (k : Compared). k .unsaved) (holds fresh (write 1 ∷ stop 0 ∷ next 0 ∷ answer 0 Bad ∷ []) refl refl refl refl))
+
+-- ---- "one that refuses all .. fails demand 2's tables"
+
+-- After 20 ticks the unit is still Active.
+pub refuses-all-fails-g : Examples refusesAll → ⊥
+unfolding computed
+refuses-all-fails-g holds = let shown : _≡_ {A = ℕ} 0 1 = ap depth (holds *g20 .1) in omega arith
+
+-- Number 3 for a tick on a well-formed record: its row does not apply.
+pub refuses-all-fails-numbers : Numbers refusesAll → ⊥
+unfolding computed
+refuses-all-fails-numbers holds = false≢true (holds fresh tick BadRecord .0 refl .applies)
+
+-- Demand 3 drops every refused call, so on no run does it see this program: the serial list is empty, and the record stays.
+refuses-each : (u : Unit) (c : Call) → deedOf c (refusesAll u c .said) ≡ refuses c
+refuses-each u (setFeatures q) = refl
+refuses-each u tick = refl
+refuses-each u (read host) = refl
+refuses-each u (write host) = refl
+refuses-each u powerOn = refl
+refuses-each u hardReset = refl
+refuses-each u softReset = refl
+refuses-each u (startStop host cdb) = refl
+refuses-each u (next host) = refl
+refuses-each u (answer host reply) = refl
+refuses-each u (requestSense host buffer) = refl
+refuses-each u (logPage buffer) = refl
+
+nothing-left : (u : Unit) (past : List Deed) (cs : List Call) → serialAfter past (deeds (historyBy refusesAll u cs)) ≡ []
+nothing-left u past [] = refl
+nothing-left u past (c ∷ cs) = rw (refuses-each u c) (nothing-left u (refuses c ∷ past) cs)
+
+nothing-moves : (u : Unit) (cs : List Call) → runBy refusesAll u cs ≡ u
+nothing-moves u [] = refl
+nothing-moves u (c ∷ cs) = nothing-moves u cs
+
+pub refuses-all-meets-demand-3 : Demand3 refusesAll
+refuses-all-meets-demand-3 u cs w n r e = rw (nothing-left u [] cs, nothing-moves u cs)
+
+-- ---- "one that admits a single operation for the whole unit fails number 6, given only for a host's own"
+
+pub one-for-all-fails-numbers : Numbers oneForAll → ⊥
+unfolding computed
+one-for-all-fails-numbers holds = false≢true (holds (run fresh (stop 0 ∷ [])) (stop 1) OwnWaiting .0 refl .applies)
+
+-- Demand 3 drops the call that is refused wrongly, and on the run in which the two operations would meet sees nothing.
+pub one-for-all-agrees : Agrees oneForAll (stop 0 ∷ stop 1 ∷ next 0 ∷ answer 0 Good ∷ next 1 ∷ next 0 ∷ answer 0 Good ∷ [])
+unfolding computed
+one-for-all-agrees = (refl, refl, refl, refl)
+
+-- ---- "one that invents the flush count fails its definition"
+
+-- Example m's stop has two flushes answered, and 1 is said.
+pub invents-count-fails-flush-count : FlushCount inventsCount → ⊥
+unfolding computed
+invents-count-fails-flush-count holds =
+    let shown : _≡_ {A = ℕ} 1 2 =
+    holds fresh (stop 0 ∷ next 0 ∷ answer 0 Good ∷ write 1 ∷ next 0 ∷ answer 0 Good ∷ next 0 ∷ []) 0 Good _ refl refl refl
+    in
+    omega arith
+
+-- ---- one that "always reports Active fails demand 2's tables"
+
+pub always-active-fails-l : Examples alwaysActive → ⊥
+unfolding computed
+always-active-fails-l holds =
+    let shown : _≡_ {A = ℕ} 0x00 0x5E = ap (λ (o : Outcome). getD (o .buffer) 12 0) (holds *l) in
+    omega arith

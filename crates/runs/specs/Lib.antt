@@ -1,0 +1,8 @@
+pub mod Deeds
+pub mod Past
+pub mod Serial
+pub mod Safe
+pub mod FlushCount
+pub mod Reports
+pub mod WrongSteps
+pub mod Afternoon

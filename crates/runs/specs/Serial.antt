@@ -1,0 +1,154 @@
+-- Demand 3. The serial run is a list of calls, made from the history of the real one: each START STOP UNIT is run whole, at the place of its
+-- last drive answer.
+use mathlib.Core.Bool.{Bool, true, not, _&&_, _||_, cond}
+use mathlib.Core.Path.{_≡_}
+use mathlib.Core.List.{List, [], _∷_, _++_}
+use Prim.Native.Nat.{ℕ}
+use lib.Dec.{eqb}
+use Rattle.rows.specs.Rows.{everyAt}
+use Rattle.drive.specs.declared.Tenths.{Tenths}
+use Rattle.drive.specs.declared.Record.{Record}
+use Rattle.drive.specs.declared.Power.{Power}
+use Rattle.unit.specs.Units.{isWaiting, wellFormed}
+use Rattle.unit.specs.declared.HostHeld.{HostHeld}
+use Rattle.unit.specs.declared.Unit.{Unit}
+use Rattle.bridge.specs.declared.Reply.{Reply}
+use Rattle.calls.specs.Calls.{Call, startStop, next, answer, StepFunction, Event, runBy, historyBy, run, history}
+use Rattle.runs.specs.Deeds.{Deed, begins, sends, goesOn, ends, does, aborts, refuses, deeds, isReset}
+use Rattle.runs.specs.Past.{cdbOf, replies}
+
+-- ---- the serial run
+
+-- "an operation run whole is accepted, asked and answered with no call between."
+abbrev pub asked : ℕ → List Reply → List Call
+asked host [] = []
+asked host (reply ∷ later) = next host ∷ answer host reply ∷ asked host later
+
+abbrev pub whole : ℕ → List ℕ → List Reply → List Call
+whole host cdb answers = startStop host cdb ∷ asked host answers
+
+-- What stands in the serial run for a call of the real one. "each START STOP UNIT is run whole, at the place of its last drive answer, with the
+-- answers its last flush and its last command got; ticks and the other calls keep their places, aborted power subcommands too, and other refused
+-- calls are dropped."
+abbrev pub inPlaceOf : List Deed → Deed → List Call
+inPlaceOf past (begins host cdb) = []
+inPlaceOf past (sends host q) = []
+inPlaceOf past (goesOn host reply) = []
+inPlaceOf past (ends host reply report) = whole host (cdbOf host past) (replies host (ends host reply report ∷ past))
+inPlaceOf past (does c) = c ∷ []
+inPlaceOf past (aborts c) = c ∷ []
+inPlaceOf past (refuses c) = []
+
+abbrev pub serialAfter : List Deed → List Deed → List Call
+serialAfter past [] = []
+serialAfter past (d ∷ ds) = inPlaceOf past d ++ serialAfter (d ∷ past) ds
+
+abbrev pub serial : List Event → List Call
+serial es = serialAfter [] (deeds es)
+
+-- ---- what is taken for granted of the real run
+
+-- "with nothing waiting", "at whose end none waits".
+abbrev pub nothingWaits : Unit → Bool
+nothingWaits u = everyAt (λ host s. not (isWaiting (s .slot))) 0 (u .slots)
+
+-- "in which no reset falls while an operation waits".
+abbrev pub resetsAtRest : StepFunction → Unit → List Call → Bool
+resetsAtRest by u [] = true
+resetsAtRest by u (c ∷ cs) = (not (isReset c) || nothingWaits u) && resetsAtRest by (by u c .unit) cs
+
+-- ---- what is compared
+
+-- "the settings, power condition and its cause, idle count, stopped mark, unsaved mark and held deferred senses".
+pub record Compared : Type 0 where
+  pub settings : List Record
+  pub power : Power
+  pub idle : Tenths
+  pub stopped : Bool
+  pub unsaved : Bool
+  pub held : List HostHeld
+
+abbrev pub compared : Unit → Compared
+compared u = record {
+  settings = u .drive .records;
+  power = u .drive .power;
+  idle = u .drive .idle;
+  stopped = u .stopped;
+  unsaved = u .unsaved;
+  held = u .held;
+}
+
+-- ---- the demand
+
+-- "Take any run of calls by the four hosts from any well-formed record with nothing waiting, in which no reset falls while an operation waits and
+-- at whose end none waits. Then the settings, power condition and its cause, idle count, stopped mark, unsaved mark and held deferred senses are
+-- those that demand 2 gives" for the serial run. The real run is any step function's; demand 2 is `outcome`, and `run` is its run.
+abbrev pub Demand3 : StepFunction → Type 0
+Demand3 by = (u : Unit) (cs : List Call) → wellFormed u ≡ true → nothingWaits u ≡ true → resetsAtRest by u cs ≡ true
+    → nothingWaits (runBy by u cs) ≡ true → compared (runBy by u cs) ≡ compared (run u (serial (historyBy by u cs)))
+
+-- ---- what else is said of the serial run
+
+-- What each deed gives, one after the other.
+abbrev pub gather : {A : Type 0} → (Deed → List A) → List Deed → List A
+gather f [] = []
+gather f (d ∷ ds) = f d ++ gather f ds
+
+-- A call refused with another number than 10.
+abbrev pub refusedIn : Deed → List Call
+refusedIn (begins host cdb) = []
+refusedIn (sends host q) = []
+refusedIn (goesOn host reply) = []
+refusedIn (ends host reply report) = []
+refusedIn (does c) = []
+refusedIn (aborts c) = []
+refusedIn (refuses c) = c ∷ []
+
+-- A call other than START STOP UNIT, next and answer that was accepted or aborted, with which of the two it was.
+abbrev pub otherIn : Deed → List Deed
+otherIn (begins host cdb) = []
+otherIn (sends host q) = []
+otherIn (goesOn host reply) = []
+otherIn (ends host reply report) = []
+otherIn (does c) = does c ∷ []
+otherIn (aborts c) = aborts c ∷ []
+otherIn (refuses c) = []
+
+-- The CDB of this host's accepted START STOP UNIT.
+abbrev pub begunIn : ℕ → Deed → List (List ℕ)
+begunIn k (begins host cdb) = cond (eqb host k) (cdb ∷ []) []
+begunIn k (sends host q) = []
+begunIn k (goesOn host reply) = []
+begunIn k (ends host reply report) = []
+begunIn k (does c) = []
+begunIn k (aborts c) = []
+begunIn k (refuses c) = []
+
+-- The host of an accepted START STOP UNIT.
+abbrev pub beginnerIn : Deed → List ℕ
+beginnerIn (begins host cdb) = host ∷ []
+beginnerIn (sends host q) = []
+beginnerIn (goesOn host reply) = []
+beginnerIn (ends host reply report) = []
+beginnerIn (does c) = []
+beginnerIn (aborts c) = []
+beginnerIn (refuses c) = []
+
+-- The host of a last drive answer.
+abbrev pub enderIn : Deed → List ℕ
+enderIn (begins host cdb) = []
+enderIn (sends host q) = []
+enderIn (goesOn host reply) = []
+enderIn (ends host reply report) = host ∷ []
+enderIn (does c) = []
+enderIn (aborts c) = []
+enderIn (refuses c) = []
+
+-- Of the deeds of a real run and those of its serial run: none of the serial list is refused but for the aborts; its calls other than START STOP
+-- UNIT, next and answer are the real run's accepted such calls and aborts, in order; its START STOP UNITs are the accepted pairs of host and CDB,
+-- one each (host by host the same CDBs), in the order of their last answers.
+pub record Serialises (real made : List Deed) : Type 0 where
+  pub none-refused : gather refusedIn made ≡ []
+  pub same-others : gather otherIn made ≡ gather otherIn real
+  pub one-each : (host : ℕ) → gather (begunIn host) made ≡ gather (begunIn host) real
+  pub in-order : gather beginnerIn made ≡ gather enderIn real

@@ -1,0 +1,161 @@
+-- Document 01, "Holding the wording to account": wrong programs, as step functions. Each does as the layer does but for its own slip.
+use mathlib.Core.Bool.{Bool, true, false, not, _&&_, cond}
+use lib.Dec.{eqb}
+use Rattle.drive.specs.declared.Power.the-variants.{Active}
+use Rattle.unit.specs.Units.{slotOf, withMarks}
+use Rattle.unit.specs.declared.Refusal.{Refusal}
+use Rattle.unit.specs.declared.Refusal.the-variants.{BadRecord, OwnWaiting}
+use Rattle.unit.specs.declared.Verdict.{Verdict}
+use Rattle.unit.specs.declared.Verdict.the-variants.{Clear, Given}
+use Rattle.unit.specs.declared.SenseDue.{SenseDue}
+use Rattle.unit.specs.declared.SenseDue.the-variants.{NoSense, WithSense}
+use Rattle.unit.specs.declared.Slot.{Slot}
+use Rattle.unit.specs.declared.Slot.the-variants.{Empty, Waiting}
+use Rattle.unit.specs.declared.Out.{Out}
+use Rattle.unit.specs.declared.Out.the-variants.{NoneOut, OutFor}
+use Rattle.unit.specs.declared.Answer.the-variants.{Refused}
+use Rattle.unit.specs.declared.Unit.{Unit}
+use Rattle.bridge.specs.Operations.{flushesOf, dueFrom, isFlush, entering}
+use Rattle.bridge.specs.declared.Acceptance.the-variants.{GoodDue, Pending, NotAccepted}
+use Rattle.bridge.specs.declared.Next.the-variants.{NotSent}
+use Rattle.bridge.specs.declared.Progress.the-variants.{More, Ended, NotTaken}
+use Rattle.calls.specs.Calls.{Call, setFeatures, tick, read, write, powerOn, hardReset, softReset, startStop, next, answer, requestSense, logPage, Said, plain, accepted, sent, progressed, Outcome, outcome, StepFunction}
+use Rattle.calls.specs.Table.{verdictIn}
+use Rattle.calls.specs.Numbers.{lent}
+use Rattle.runs.specs.Serial.{nothingWaits}
+
+-- ---- an outcome with one thing changed
+
+abbrev pub saying : Said → Outcome → Outcome
+saying said o = record { said = said; unit = o .unit; buffer = o .buffer }
+
+abbrev pub leaving : Unit → Outcome → Outcome
+leaving u o = record { said = o .said; unit = u; buffer = o .buffer }
+
+-- The record with this unsaved mark.
+abbrev pub marked : Bool → Unit → Unit
+marked unsaved u = withMarks (u .stopped) unsaved u
+
+-- The call is not refused.
+abbrev pub isClear : Verdict → Bool
+isClear Clear = true
+isClear (Given r) = false
+
+-- ---- "one that flushes once and skips every later flush"
+
+-- An operation waits, and a flush of it is answered.
+abbrev pub hasFlushed : Slot → Bool
+hasFlushed Empty = false
+hasFlushed (Waiting q) = not (eqb (flushesOf (q .stage)) 0)
+
+-- The call asks or answers for such an operation.
+abbrev pub afterFlush : Unit → Call → Bool
+afterFlush u (setFeatures q) = false
+afterFlush u tick = false
+afterFlush u (read host) = false
+afterFlush u (write host) = false
+afterFlush u powerOn = false
+afterFlush u hardReset = false
+afterFlush u softReset = false
+afterFlush u (startStop host cdb) = false
+afterFlush u (next host) = hasFlushed (slotOf (u .slots) host)
+afterFlush u (answer host reply) = hasFlushed (slotOf (u .slots) host)
+afterFlush u (requestSense host buffer) = false
+afterFlush u (logPage buffer) = false
+
+-- It then does as on a record with the unsaved mark clear,
+abbrev pub unlooked : StepFunction
+unlooked u c = outcome (marked false u) c
+
+-- and leaves the mark as it was.
+abbrev pub flushesOnce : StepFunction
+flushesOnce u c = cond (afterFlush u c) (leaving (marked (u .unsaved) (unlooked u c .unit)) (unlooked u c)) (outcome u c)
+
+-- One that also clears the mark as the last command goes out, as if the flush had been sent. A refusal still leaves it.
+abbrev pub clearsMark : StepFunction
+clearsMark u c = cond (afterFlush u c && isClear (verdictIn (outcome u c .said))) (unlooked u c) (outcome u c)
+
+-- ---- failures
+
+-- The operation is over, and the end report has a failure's sense.
+abbrev pub isDue : SenseDue → Bool
+isDue NoSense = false
+isDue (WithSense s) = true
+
+abbrev pub isFailure : Said → Bool
+isFailure (plain a) = false
+isFailure (accepted a) = false
+isFailure (sent n) = false
+isFailure (progressed More) = false
+isFailure (progressed (Ended report)) = isDue (report .sense)
+isFailure (progressed (NotTaken r)) = false
+
+-- Against "Bad flush: Active" and "Bad last command: Active": the power condition stays.
+abbrev pub keepsPower : StepFunction
+keepsPower u c = cond (isFailure (outcome u c .said)) (leaving (entering (u .drive .power) (outcome u c .unit)) (outcome u c)) (outcome u c)
+
+-- The command that is out is a flush.
+abbrev pub flushDue : Bool → Slot → Bool
+flushDue unsaved Empty = false
+flushDue unsaved (Waiting q) = isFlush (dueFrom unsaved q)
+
+abbrev pub flushOut : Unit → Out → Bool
+flushOut u NoneOut = false
+flushOut u (OutFor host) = flushDue (u .unsaved) (slotOf (u .slots) host)
+
+-- Against "Bad flush: .. marks as before": it clears the unsaved mark.
+abbrev pub badFlushSaves : StepFunction
+badFlushSaves u c =
+    cond (isFailure (outcome u c .said) && flushOut u (u .out)) (leaving (marked false (outcome u c .unit)) (outcome u c)) (outcome u c)
+
+-- ---- refusals
+
+-- A refusal in the words of the call's own answer; record and buffer as they came.
+abbrev pub refusing : Refusal → Said → Said
+refusing r (plain a) = plain (Refused r)
+refusing r (accepted a) = accepted (NotAccepted r)
+refusing r (sent n) = sent (NotSent r)
+refusing r (progressed p) = progressed (NotTaken r)
+
+abbrev pub refused : Refusal → StepFunction
+refused r u c = record { said = refusing r (outcome u c .said); unit = u; buffer = lent c }
+
+-- "one that refuses all": number 3 for every call.
+abbrev pub refusesAll : StepFunction
+refusesAll = refused BadRecord
+
+-- START STOP UNIT was accepted.
+abbrev pub isAcceptance : Said → Bool
+isAcceptance (plain a) = false
+isAcceptance (accepted GoodDue) = true
+isAcceptance (accepted Pending) = true
+isAcceptance (accepted (NotAccepted r)) = false
+isAcceptance (sent n) = false
+isAcceptance (progressed p) = false
+
+-- "one that admits a single operation for the whole unit": number 6 while any host's operation waits.
+abbrev pub oneForAll : StepFunction
+oneForAll u c = cond (isAcceptance (outcome u c .said) && not (nothingWaits u)) (refused OwnWaiting u c) (outcome u c)
+
+-- ---- what is told
+
+-- "one that invents the flush count": an end report always says 1.
+abbrev pub recounted : Said → Said
+recounted (plain a) = plain a
+recounted (accepted a) = accepted a
+recounted (sent n) = sent n
+recounted (progressed More) = progressed More
+recounted (progressed (Ended report)) =
+    progressed (Ended (record { status = report .status; sense = report .sense; flushes = 1 }))
+recounted (progressed (NotTaken r)) = progressed (NotTaken r)
+
+abbrev pub inventsCount : StepFunction
+inventsCount u c = saying (recounted (outcome u c .said)) (outcome u c)
+
+-- One that "always reports Active": the bytes are those of an Active unit. The condition is in no other buffer, so no other call is touched.
+abbrev pub alwaysActive : StepFunction
+alwaysActive u c = record {
+  said = outcome u c .said;
+  unit = outcome u c .unit;
+  buffer = outcome (entering Active u) c .buffer;
+}

@@ -1,0 +1,1 @@
+// No code: what holds over any run of calls, proved in proofs/ over the definitions in specs/.
