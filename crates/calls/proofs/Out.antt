@@ -1,7 +1,7 @@
 -- While a command is out, the operation that sent it stands still: a call that would change its slot, the unsaved mark or what is out is refused
 -- with 4 at the latest. So the command that an answer is judged by is the one that was sent.
 use mathlib.Core.Path.{_≡_, refl, sym, _∙_}
-use mathlib.Core.Bool.{Bool, true, false, _&&_, true≢false}
+use mathlib.Core.Bool.{Bool, true, false, _&&_, _||_, true≢false}
 use lib.Dec.{eqb}
 use Rattle.epc.proofs.Effects.{either}
 use Rattle.unit.specs.Units.{isOut, rested}
@@ -12,6 +12,7 @@ use Rattle.unit.specs.declared.Verdict.{Verdict}
 use Rattle.unit.specs.declared.Verdict.the-variants.{Clear, Given}
 use Rattle.unit.specs.declared.Unit.{Unit}
 use Rattle.calls.specs.Calls.{Call, setFeatures, tick, read, write, powerOn, hardReset, softReset, startStop, next, answer, requestSense, logPage, outcome, step}
+use Rattle.calls.specs.Kinds.{isReset, isAnswerFor}
 use Rattle.calls.specs.Table.{waitsForDrive, verdictIn}
 use Rattle.calls.proofs.Numbers.{accepted-exactly, refusal-keeps, acceptance-does}
 
@@ -41,18 +42,7 @@ module _ (u : Unit) (c : Call) where
 
 -- The calls that may end or take what is out: the answer and the resets.
 abbrev pub mayEnd : Call → Bool
-mayEnd (setFeatures q) = false
-mayEnd tick = false
-mayEnd (read host) = false
-mayEnd (write host) = false
-mayEnd powerOn = true
-mayEnd hardReset = true
-mayEnd softReset = true
-mayEnd (startStop host cdb) = false
-mayEnd (next host) = false
-mayEnd (answer host reply) = true
-mayEnd (requestSense host buffer) = false
-mayEnd (logPage buffer) = false
+mayEnd c = isReset c || isAnswerFor (λ host. true) c
 
 module _ (u : Unit) (c : Call) (effect : Unit) (kept : SameOperations u effect)
     (does : verdictIn (outcome u c .said) ≡ Clear → step u c ≡ effect) where

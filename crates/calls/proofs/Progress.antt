@@ -1,13 +1,13 @@
 -- A waiting operation with nothing out always gets a command, and every answer to it ends it or counts one flush and clears the unsaved mark.
 -- The mark is set again only by an accepted write, so without one the next command is the last, and its answer ends the operation.
 use mathlib.Core.Path.{_≡_, refl, ap, sym, _∙_}
-use mathlib.Core.Bool.{Bool, true, false, not, cond, true≢false}
+use mathlib.Core.Bool.{Bool, true, false, not, _&&_, _||_, cond, true≢false}
 use mathlib.Core.List.{List, [], _∷_}
 use mathlib.Core.Logic.{_⊎_, inl, inr, ⊎-elim}
 use Prim.Native.Nat.{ℕ, suc, _+_, _<_, _≤_}
 use native.Mathlib.Omega.{arith}
 use lib.Dec.{eqb, ltb, eqb·suc-zero}
-use lib.ListN.{length, set, List·getD-eq-default}
+use lib.ListN.{length, List·getD-eq-default}
 use borrow.Author.Tests.{ltb-true, ltb-false, le-ltb, eqb-false, eq-eqb, ne-eqb, not-true}
 use Rattle.rows.specs.Rows.{everyAt}
 use Rattle.rows.proofs.Places.{and-left, and-right}
@@ -19,7 +19,6 @@ use Rattle.unit.specs.declared.Target.{Target}
 use Rattle.unit.specs.declared.Target.the-variants.{Stop, Start, GoTo}
 use Rattle.unit.specs.declared.Stage.the-variants.{Straight, Flushing}
 use Rattle.unit.specs.declared.Request.{Request}
-use Rattle.unit.specs.declared.Slot.{Slot}
 use Rattle.unit.specs.declared.Slot.the-variants.{Empty, Waiting}
 use Rattle.unit.specs.declared.HostSlot.{HostSlot}
 use Rattle.unit.specs.declared.Out.the-variants.{NoneOut, OutFor}
@@ -38,7 +37,8 @@ use Rattle.bridge.specs.declared.Next.the-variants.{Send}
 use Rattle.bridge.specs.declared.Progress.the-variants.{More, Ended}
 use Rattle.bridge.specs.declared.Replied.{Replied}
 use Rattle.calls.specs.Calls.{Call, setFeatures, tick, read, write, powerOn, hardReset, softReset, startStop, next, answer, requestSense, logPage, Said, plain, outcome, step, run, Event, history}
-use Rattle.calls.specs.Table.{verdictIn}
+use Rattle.calls.specs.Kinds.{isReset, isWrite, isAnswerFor}
+use Rattle.calls.specs.Table.{verdictIn, isClear}
 use Rattle.calls.proofs.Numbers.{clear-none}
 use Rattle.calls.proofs.Steps.{after-every}
 use Rattle.calls.proofs.Hosts.{own-slot, other-slot}
@@ -179,38 +179,12 @@ counted-due unsaved q saved = rw (saved, one-more-some (flushesOf (q .stage)))
 -- ---- the calls between two answers
 
 -- An accepted write.
-abbrev isClear : Verdict → Bool
-isClear Clear = true
-isClear (Given r) = false
-
 abbrev pub wrote : Call → Said → Bool
-wrote (setFeatures q) said = false
-wrote tick said = false
-wrote (read host) said = false
-wrote (write host) said = isClear (verdictIn said)
-wrote powerOn said = false
-wrote hardReset said = false
-wrote softReset said = false
-wrote (startStop host cdb) said = false
-wrote (next host) said = false
-wrote (answer host reply) said = false
-wrote (requestSense host buffer) said = false
-wrote (logPage buffer) said = false
+wrote c said = isWrite c && isClear (verdictIn said)
 
 -- A reset, or an answer to the host's own command.
 abbrev pub movesOn : ℕ → Call → Bool
-movesOn k (setFeatures q) = false
-movesOn k tick = false
-movesOn k (read host) = false
-movesOn k (write host) = false
-movesOn k powerOn = true
-movesOn k hardReset = true
-movesOn k softReset = true
-movesOn k (startStop host cdb) = false
-movesOn k (next host) = false
-movesOn k (answer host reply) = eqb host k
-movesOn k (requestSense host buffer) = false
-movesOn k (logPage buffer) = false
+movesOn k c = isReset c || isAnswerFor (λ host. eqb host k) c
 
 module _ (u : Unit) (saved : u .unsaved ≡ false) where
   saved-unless : (c : Call) → ((said : Said) → wrote c said ≡ false) → outcome u c .unit .unsaved ≡ false

@@ -150,3 +150,8 @@ verdictIn (sent (NotSent r)) = Given r
 verdictIn (progressed More) = Clear
 verdictIn (progressed (Ended report)) = Clear
 verdictIn (progressed (NotTaken r)) = Given r
+
+-- The call is not refused.
+abbrev pub isClear : Verdict → Bool
+isClear Clear = true
+isClear (Given r) = false

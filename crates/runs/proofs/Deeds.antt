@@ -3,8 +3,10 @@ use mathlib.Core.Path.{_≡_, refl, sym, ap, _∙_}
 use mathlib.Core.Bool.{Bool, true, false, cond, false≢true, true≢false}
 use mathlib.Core.List.{List}
 use Prim.Native.Nat.{ℕ}
+use lib.Dec.{eqb}
 use Rattle.epc.specs.Epc.{aborts as epcAborts}
 use Rattle.epc.specs.declared.Registers.{Registers}
+use Rattle.epc.proofs.Effects.{either}
 use Rattle.unit.specs.Units.{slotOf, withSlot, rested}
 use Rattle.unit.specs.Refusals.{numberOf, lowest, afterRefusal}
 use Rattle.unit.specs.Calls.{epcRows, mediumRows, senseRows, logRows, epcEffect, tickEffect, readEffect, writeEffect, powerOnEffect, hardResetEffect, senseEffect}
@@ -18,17 +20,20 @@ use Rattle.unit.specs.declared.Slot.the-variants.{Waiting}
 use Rattle.unit.specs.declared.Failure.the-variants.{CommandSequence}
 use Rattle.unit.specs.declared.Unit.{Unit}
 use Rattle.bridge.specs.Cdb.{wanted, requestFor}
-use Rattle.bridge.specs.Operations.{registersOf, oneMore, flushesOf, dueFrom, isFlush, isGood, countsAsGood, reportGood, reportFailed, flushedWell, failed, succeeded, flushAnswered, lastAnswered, answeredFor}
+use Rattle.bridge.specs.Operations.{registersOf, oneMore, flushesOf, dueFrom, isFlush, countsAsGood, reportGood, reportFailed, flushedWell, failed, succeeded, flushAnswered, lastAnswered, answeredFor}
 use Rattle.bridge.specs.Bridge.{startStopRows, startStopEffect, nextRows, nextEffect, nextSettled, nextOutcome, answerRows, answerSettled, answerOutcome}
 use Rattle.bridge.specs.declared.Wanted.the-variants.{Wants}
 use Rattle.bridge.specs.declared.Reply.{Reply}
 use Rattle.bridge.specs.declared.Reply.the-variants.{Good, Bad}
+use Rattle.bridge.specs.declared.Next.the-variants.{Send, NotSent}
+use Rattle.bridge.specs.declared.Progress.the-variants.{More, Ended, NotTaken}
 use Rattle.bridge.specs.declared.Replied.{Replied}
-use Rattle.calls.specs.Calls.{Call, setFeatures, tick, read, write, powerOn, hardReset, softReset, startStop, next, answer, requestSense, logPage, sent, progressed, outcome, step}
+use Rattle.calls.specs.Calls.{Call, setFeatures, tick, read, write, powerOn, hardReset, softReset, startStop, next, answer, requestSense, logPage, Said, plain, accepted, sent, progressed, outcome, step}
+use Rattle.calls.specs.Kinds.{isReset}
 use Rattle.calls.specs.Table.{verdictIn}
 use Rattle.calls.specs.Numbers.{appliesTo, ownRows, effect}
-use Rattle.calls.proofs.Numbers.{own-told, next-waiting, answer-waiting, refused-exactly, refusal-keeps, acceptance-does, start-wants, next-accepted, answer-accepted}
-use Rattle.runs.specs.Deeds.{Deed, begins, sends, goesOn, ends, does, aborts, refuses, beginning, sending, answering, another, deedOf}
+use Rattle.calls.proofs.Numbers.{own-told, next-waiting, answer-waiting, refused-exactly, refusal-keeps, acceptance-does, start-wants}
+use Rattle.runs.specs.Deeds.{Deed, begins, sends, goesOn, ends, does, aborts, refuses, beginning, sending, answering, another, deedOf, doesA}
 
 -- ---- the cases
 
@@ -197,3 +202,43 @@ module _ (P : Deed → Unit → Type 0) (u : Unit) (cases : Cases P u) where
   by-deed (answer host reply) = answers host reply
   by-deed (requestSense host buffer) = other (requestSense host buffer) (cases .tells host buffer) never
   by-deed (logPage buffer) = other (logPage buffer) (cases .logs buffer) never
+
+-- ---- only a reset comes to the deed of a reset
+
+another-reset : (c : Call) (v : Verdict) → doesA isReset (another c v) ≡ true → isReset c ≡ true
+another-reset c Clear h = h
+another-reset c (Given r) h =
+    absurd (true≢false (sym h ∙ either (λ (d : Deed). doesA isReset d ≡ false) (eqb (numberOf r) 10) (aborts c) (refuses c) refl refl))
+
+begins-no-reset : (host : ℕ) (cdb : List ℕ) (v : Verdict) → doesA isReset (beginning host cdb v) ≡ false
+begins-no-reset host cdb Clear = refl
+begins-no-reset host cdb (Given r) = refl
+
+sends-no-reset : (host : ℕ) (said : Said) → doesA isReset (sending host said) ≡ false
+sends-no-reset host (plain a) = refl
+sends-no-reset host (accepted a) = refl
+sends-no-reset host (sent (Send q)) = refl
+sends-no-reset host (sent (NotSent r)) = refl
+sends-no-reset host (progressed p) = refl
+
+answers-no-reset : (host : ℕ) (reply : Reply) (said : Said) → doesA isReset (answering host reply said) ≡ false
+answers-no-reset host reply (plain a) = refl
+answers-no-reset host reply (accepted a) = refl
+answers-no-reset host reply (sent n) = refl
+answers-no-reset host reply (progressed More) = refl
+answers-no-reset host reply (progressed (Ended report)) = refl
+answers-no-reset host reply (progressed (NotTaken r)) = refl
+
+pub reset-call : (c : Call) (said : Said) → doesA isReset (deedOf c said) ≡ true → isReset c ≡ true
+reset-call (setFeatures q) said = another-reset (setFeatures q) (verdictIn said)
+reset-call tick said = another-reset tick (verdictIn said)
+reset-call (read host) said = another-reset (read host) (verdictIn said)
+reset-call (write host) said = another-reset (write host) (verdictIn said)
+reset-call powerOn said = another-reset powerOn (verdictIn said)
+reset-call hardReset said = another-reset hardReset (verdictIn said)
+reset-call softReset said = another-reset softReset (verdictIn said)
+reset-call (startStop host cdb) said = λ h. sym (begins-no-reset host cdb (verdictIn said)) ∙ h
+reset-call (next host) said = λ h. sym (sends-no-reset host said) ∙ h
+reset-call (answer host reply) said = λ h. sym (answers-no-reset host reply said) ∙ h
+reset-call (requestSense host buffer) said = another-reset (requestSense host buffer) (verdictIn said)
+reset-call (logPage buffer) said = another-reset (logPage buffer) (verdictIn said)

@@ -15,12 +15,12 @@ use Rattle.unit.specs.declared.Unit.{Unit}
 use Rattle.bridge.specs.Cdb.{noFlush, stageFor}
 use Rattle.bridge.specs.Operations.{dueFrom, isFlush, oneMore, flushesOf}
 use Rattle.bridge.specs.declared.Reply.{Reply}
-use Rattle.bridge.specs.declared.Report.{Report}
-use Rattle.calls.specs.Calls.{Call, answer, run}
+use Rattle.calls.specs.Calls.{Call, answer, outcome, run}
 use Rattle.runs.specs.Deeds.{Deed, begins, sends, goesOn, ends, does, aborts, refuses}
 use Rattle.runs.specs.Past.{pastOf, flushSent, flushesAnswered, heldAt255}
 use Rattle.runs.specs.Serial.{nothingWaits}
-use Rattle.runs.proofs.Deeds.{Taken, Cases, deedAt, by-deed}
+use Rattle.runs.specs.FlushCount.{FlushCount}
+use Rattle.runs.proofs.Deeds.{Taken, Cases, by-deed}
 use Rattle.runs.proofs.Known.{Reached, Noted, Known, counts-on, sent-due, known-after}
 
 -- ---- a waiting operation
@@ -93,9 +93,8 @@ module _ (u : Unit) (fine : wellFormed u ≡ true) (none : nothingWaits u ≡ tr
       → flushesOf (q .stage) ≡ heldAt255 (flushesAnswered host (pastOf u cs))
   slot-counts = waiting-counts (pastOf u cs) (run u cs) (known-after u fine none cs)
 
-  -- So is the count in its end report.
-  pub report-counts : (host : ℕ) (reply : Reply) (report : Report) → deedAt (run u cs) (answer host reply) ≡ ends host reply report
-      → report .flushes ≡ heldAt255 (flushesAnswered host (ends host reply report ∷ pastOf u cs))
-  report-counts host reply report e =
-      let known = known-after u fine none cs in
-      rw e at (by-deed (λ d v. ReportCounts (pastOf u cs) d) (run u cs) (reports (pastOf u cs) (run u cs) known) (answer host reply))
+-- So is the count in its end report.
+pub flush-count : FlushCount outcome
+flush-count u cs host reply report fine none e =
+    let known = known-after u fine none cs in
+    rw e at (by-deed (λ d v. ReportCounts (pastOf u cs) d) (run u cs) (reports (pastOf u cs) (run u cs) known) (answer host reply))

@@ -2,18 +2,18 @@
 -- Each call keeps that, case by case; a case that changes a slot is split by whether it is this host's.
 use mathlib.Core.Path.{_≡_, refl, sym, ap, _∙_}
 use mathlib.Core.Bool.{Bool, true, false, not, cond, true≢false, false≢true}
-use mathlib.Core.List.{List, [], _∷_, map, reverseAux}
+use mathlib.Core.List.{List, [], _∷_, reverseAux}
 use Prim.Native.Nat.{ℕ, zero, suc, _+_, _<_}
 use native.Mathlib.Omega.{arith}
 use lib.Dec.{eqb, ltb}
 use lib.ListN.{length, set, replicate}
-use borrow.Author.Tests.{ltb-true, ltb-false, lt-ltb, le-ltb, eqb-true, eqb-false, not-true, not-false}
+use borrow.Author.Tests.{ltb-true, ltb-false, le-ltb, eqb-true, eqb-false, not-true, not-false}
 use Rattle.rows.specs.Rows.{everyAt}
 use Rattle.rows.proofs.Places.{and-left, and-right}
 use Rattle.epc.proofs.Effects.{either}
 use Rattle.unit.specs.Units.{emptySlot, slotOf, isWaiting, isOut, isOutFor, wellFormed, withSlot, rested}
 use Rattle.unit.specs.Refusals.{lowest}
-use Rattle.unit.specs.Calls.{tickEffect, mediumRows}
+use Rattle.unit.specs.Calls.{mediumRows}
 use Rattle.unit.specs.declared.Target.{Target}
 use Rattle.unit.specs.declared.Target.the-variants.{Stop, Start, GoTo}
 use Rattle.unit.specs.declared.Stage.{Stage}
@@ -41,7 +41,7 @@ use Rattle.calls.proofs.Numbers.{clear-none}
 use Rattle.calls.proofs.Hosts.{own-slot, other-slot}
 use Rattle.calls.proofs.WellFormed.{unit-fine, well-formed-kept}
 use Rattle.calls.proofs.Progress.{last-no-flush}
-use Rattle.runs.specs.Deeds.{Deed, begins, sends, goesOn, ends, does, aborts, refuses, deeds}
+use Rattle.runs.specs.Deeds.{Deed, begins, sends, goesOn, ends, does, deeds}
 use Rattle.runs.specs.Past.{pastOf, cdbOf, flushSent, replies, flushesAnswered, heldAt255}
 use Rattle.runs.specs.Serial.{nothingWaits}
 use Rattle.runs.proofs.Deeds.{Taken, Cases, deedAt, by-deed}

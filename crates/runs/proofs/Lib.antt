@@ -1,8 +1,10 @@
 pub mod Deeds
 pub mod Known
+pub mod RunsTo
 pub mod Whole
 pub mod Same
 pub mod Over
+pub mod Pending
 pub mod Demand3
 pub mod Safe
 pub mod FlushCount

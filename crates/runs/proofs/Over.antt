@@ -1,16 +1,16 @@
 -- Demand 3 at the calls of an operation. Until its last answer nothing stands in the serial run, and only the unsaved mark may come apart. At its last
 -- answer it is run whole there: both runs then have the same answer to the same command, which sets condition, idle count, marks and held sense alike.
 use mathlib.Core.Path.{_≡_, refl, sym, ap, _∙_}
-use mathlib.Core.Bool.{Bool, true, false, _||_, cond, true≢false, false≢true}
-use mathlib.Core.List.{List, [], _∷_, _++_, append-nil}
-use mathlib.Core.Logic.{_⊎_, inl, inr}
+use mathlib.Core.Bool.{Bool, true, false, _||_, cond, true≢false}
+use mathlib.Core.List.{List, [], _∷_, append-nil}
+use mathlib.Core.Logic.{inl, inr}
 use Prim.Native.Nat.{ℕ, zero, suc}
 use native.Mathlib.Omega.{arith}
-use lib.Dec.{eqb, ltb}
+use lib.Dec.{eqb}
 use lib.ListN.{set}
 use borrow.Author.Tests.{eq-eqb}
 use Rattle.epc.specs.declared.Registers.{Registers}
-use Rattle.unit.specs.Units.{emptySlot, slotOf, isWaiting, requestWellFormed, slotWellFormed, wellFormed, withSlot, rested}
+use Rattle.unit.specs.Units.{emptySlot, slotOf, isWaiting, withSlot, rested}
 use Rattle.unit.specs.Refusals.{lowest}
 use Rattle.unit.specs.declared.Target.{Target}
 use Rattle.unit.specs.declared.Target.the-variants.{Stop, Start, GoTo}
@@ -23,10 +23,9 @@ use Rattle.unit.specs.declared.Failure.{Failure}
 use Rattle.unit.specs.declared.Failure.the-variants.{CommandSequence}
 use Rattle.unit.specs.declared.Verdict.the-variants.{Clear}
 use Rattle.unit.specs.declared.Unit.{Unit}
-use Rattle.bridge.specs.Cdb.{noFlush, wanted, stageFor, requestFor}
+use Rattle.bridge.specs.Cdb.{noFlush, isListed, stageFor, requestFor}
 use Rattle.bridge.specs.Operations.{registersOf, lastOf, dueFrom, isFlush, oneMore, flushesOf, reportGood, reportFailed, heldIf, flushCounted, flushedWell, failed, succeeded, countsAsGood, answeredFor}
 use Rattle.bridge.specs.Bridge.{startStopRows, nextEffect, answerRows}
-use Rattle.bridge.specs.declared.Wanted.the-variants.{Wants}
 use Rattle.bridge.specs.declared.Due.{Due}
 use Rattle.bridge.specs.declared.Due.the-variants.{Flush}
 use Rattle.bridge.specs.declared.Reply.{Reply}
@@ -34,18 +33,19 @@ use Rattle.bridge.specs.declared.Reply.the-variants.{Good, Bad}
 use Rattle.bridge.specs.declared.Report.{Report}
 use Rattle.bridge.specs.declared.Progress.the-variants.{Ended}
 use Rattle.bridge.specs.declared.Replied.{Replied}
-use Rattle.calls.specs.Calls.{Call}
 use Rattle.calls.proofs.Numbers.{clear-none}
 use Rattle.calls.proofs.Hosts.{own-slot}
+use Rattle.calls.proofs.Requests.{request-fits}
 use Rattle.calls.proofs.WellFormed.{unit-fine}
 use Rattle.calls.proofs.Progress.{last-no-flush, one-more-some}
 use Rattle.runs.specs.Deeds.{Deed, begins, sends, goesOn, ends}
-use Rattle.runs.specs.Past.{cdbOf, flushSent, gets, replies, flushesAnswered, heldAt255}
-use Rattle.runs.specs.Serial.{whole, inPlaceOf}
+use Rattle.runs.specs.Past.{cdbOf, gets, replies, flushesAnswered, heldAt255}
+use Rattle.runs.specs.Serial.{whole}
 use Rattle.runs.proofs.Deeds.{Taken}
-use Rattle.runs.proofs.Known.{goods, Reached, NotedBy, Known, empty-waits, waiting-same, sent-due, inside, straight-no-flush}
-use Rattle.runs.proofs.Whole.{Quiet, RunsTo, Ready, ready-begun, ready-flushed, flushed-due, whole-once, whole-twice}
-use Rattle.runs.proofs.Same.{Helped, SameMark, Same, StandFor, Follows, Stands, left-fine, nothing, mark-beside}
+use Rattle.runs.proofs.Known.{goods, Reached, NotedBy, Known, waiting-same, sent-due, inside, straight-no-flush}
+use Rattle.runs.proofs.RunsTo.{RunsTo}
+use Rattle.runs.proofs.Whole.{Quiet, quiet-out, Admitted, Ready, ready-begun, ready-flushed, flushed-due, whole-once, whole-twice}
+use Rattle.runs.proofs.Same.{Helped, SameMark, Same, StandFor, Follows, Stands, left-fine, waits-on, mark-beside}
 
 -- ---- both ends
 
@@ -174,67 +174,41 @@ module _ (past : List Deed) (u v : Unit) (known : Known past u) (same : Same u v
   abbrev Beside : Deed → Unit → Type 0
   Beside = Stands past u v (known .0) same
 
-  waits-there : {A : Type 0} (w : Unit) (host : ℕ) (q : Request) → slotOf (w .slots) host ≡ Waiting q → Quiet w → A
-  waits-there w host q waits quiet = empty-waits q (sym (quiet host) ∙ waits)
-
   -- ---- before the end
 
-  pub begins-on : (host : ℕ) (cdb : List ℕ) (t : Target) → lowest (startStopRows u host cdb) ≡ Clear → wanted cdb ≡ Wants t
+  pub begins-on : (host : ℕ) (cdb : List ℕ) (t : Target) → lowest (startStopRows u host cdb) ≡ Clear
       → Beside (begins host cdb) (withSlot host (Waiting (requestFor t cdb)) (rested u))
-  begins-on host cdb t clear wants r =
-      let u' = withSlot host (Waiting (requestFor t cdb)) (rested u) in
-      let waits = own-slot (u .slots) host (Waiting (requestFor t cdb)) (inside u host (known .0) (clear-none (startStopRows u host cdb) clear 1)) in
-      nothing past u v (known .0) same (begins host cdb) u' refl
-      (record { none-refused = refl; same-others = refl; beginner = refl; begun = λ k. refl }) (record {
-        fine = same .fine;
-        quiet = same .quiet;
-        records = same .records;
-        stopped = same .stopped;
-        held = same .held;
-        unsaved = mark-beside (u .slots) (u .unsaved) (v .unsaved) host _ other (same .unsaved);
-        at-rest = waits-there u' host _ waits;
-      })
+  begins-on host cdb t clear r =
+      waits-on past u v (known .0) same (begins host cdb) (withSlot host (Waiting (requestFor t cdb)) (rested u)) refl
+      (record { none-refused = refl; same-others = refl; beginner = refl; begun = λ k. refl }) host (requestFor t cdb)
+      (own-slot (u .slots) host _ (inside u host (known .0) (clear-none (startStopRows u host cdb) clear 1))) refl refl refl
+      (mark-beside (u .slots) (u .unsaved) (v .unsaved) host _ other (same .unsaved))
     where
+      -- the host has nothing waiting yet
       other : (h : Helped (u .slots) (u .unsaved)) → h .host ≡ host → ⊥
       other h e =
-          let none : isWaiting (slotOf (u .slots) host) ≡ false = clear-none (startStopRows u host cdb) clear 4 in
-          true≢false (sym (ap isWaiting (sym (ap (slotOf (u .slots)) e) ∙ h .waits)) ∙ none)
+          true≢false (sym (ap isWaiting (sym (ap (slotOf (u .slots)) e) ∙ h .waits)) ∙ clear-none (startStopRows u host cdb) clear 4)
 
   pub asks-on : (host : ℕ) (q : Request) → slotOf (u .slots) host ≡ Waiting q → Beside (sends host (registersOf (dueFrom (u .unsaved) q))) (nextEffect host u)
   asks-on host q waits r =
-      nothing past u v (known .0) same _ (nextEffect host u) refl
-      (record { none-refused = refl; same-others = refl; beginner = refl; begun = λ k. refl }) (record {
-        fine = same .fine;
-        quiet = same .quiet;
-        records = same .records;
-        stopped = same .stopped;
-        held = same .held;
-        unsaved = same .unsaved;
-        at-rest = waits-there u host q waits;
-      })
+      waits-on past u v (known .0) same _ (nextEffect host u) refl
+      (record { none-refused = refl; same-others = refl; beginner = refl; begun = λ k. refl }) host q waits refl refl refl (same .unsaved)
 
+  -- A good flush helps: the mark is clear in the real run alone, until the operation ends.
   pub flushes-on : (host : ℕ) (q : Request) → Taken u host q → Beside (goesOn host Good) (flushedWell u host q .unit)
   flushes-on host q taken r =
-      let u' = flushedWell u host q .unit in
       let waits = own-slot (u .slots) host (Waiting (flushCounted q)) (inside u host (known .0) (clear-none (answerRows u host) (taken .clear) 0)) in
-      nothing past u v (known .0) same (goesOn host Good) u' refl
-      (record { none-refused = refl; same-others = refl; beginner = refl; begun = λ k. refl }) (record {
-        fine = same .fine;
-        quiet = same .quiet;
-        records = same .records;
-        stopped = same .stopped;
-        held = same .held;
-        unsaved = inr (record {
-          saved = refl;
-          host = host;
-          request = flushCounted q;
-          waits = waits;
-          count = oneMore (flushesOf (q .stage));
-          stage = refl;
-          some = one-more-some (flushesOf (q .stage));
-        });
-        at-rest = waits-there u' host (flushCounted q) waits;
-      })
+      waits-on past u v (known .0) same (goesOn host Good) (flushedWell u host q .unit) refl
+      (record { none-refused = refl; same-others = refl; beginner = refl; begun = λ k. refl }) host (flushCounted q) waits refl refl refl
+      (inr (record {
+        saved = refl;
+        host = host;
+        request = flushCounted q;
+        waits = waits;
+        count = oneMore (flushesOf (q .stage));
+        stage = refl;
+        some = one-more-some (flushesOf (q .stage));
+      }))
 
   -- ---- the end
 
@@ -248,13 +222,28 @@ module _ (past : List Deed) (u v : Unit) (known : Known past u) (same : Same u v
     noted : NotedBy past host q
     noted = known .1 host q (taken .waiting)
 
-    below : ltb 3 host ≡ false
-    below = clear-none (answerRows u host) (taken .clear) 0
+    listed : isListed (v .drive .records) cdb ≡ true
+    unfolding isListed
+    listed =
+        let fits = request-fits (u .drive .records) (q .target) (q .stage) (rw (taken .waiting) at (unit-fine u .0 (known .0) .requests host)) in
+        rw (same .records, noted .unreserved, noted .wants) fits
 
-    asked : requestWellFormed (v .drive .records) (q .target) (q .stage) ≡ true
-    asked =
-        rw (same .records)
-        (ap (slotWellFormed (u .drive .records)) (sym (taken .waiting)) ∙ unit-fine u .0 (known .0) .requests host)
+    accepts : lowest (startStopRows v host cdb) ≡ Clear
+    unfolding lowest
+    accepts =
+        rw (
+          eq-eqb _ _ (noted .six),
+          clear-none (answerRows u host) (taken .clear) 0,
+          same .fine,
+          quiet-out v (same .fine) (same .quiet),
+          same .quiet host,
+          eq-eqb _ _ (noted .opcode),
+          listed,
+        )
+
+    -- The CDB is accepted in the serial run too.
+    admitted : Admitted v host cdb q
+    admitted = record { fine = same .fine; quiet = same .quiet; clear = accepts; wants = noted .wants; immediate = noted .immediate }
 
     -- What the operation has got with this answer.
     got : (reply : Reply) (report : Report) (flush : Bool) → isFlush (dueFrom (u .unsaved) q) ≡ flush
@@ -317,10 +306,10 @@ module _ (past : List Deed) (u v : Unit) (known : Known past u) (same : Same u v
         on (Flushing m) e reached =
             let x = failed (nextEffect host begun) host first CommandSequence (oneMore (flushesOf (first .stage))) in
             ends-on Bad report (Bad ∷ []) _ begun _ (x .unit) (got Bad report true f)
-            (whole-once v (same .fine) (same .quiet) host below cdb _ _ q noted asked Bad x _
+            (whole-once v host cdb q admitted Bad x _
             (bad-flush-taken (nextEffect host begun) host first (begins-at-zero (q .target) (noFlush cdb) m e)) refl)
             (stand-once Bad report _ _)
-            (both-failed u v begun host q first same (ready-begun v (same .fine) (same .quiet) host below cdb _ _ q noted asked) n (oneMore (flushesOf (first .stage))))
+            (both-failed u v begun host q first same (ready-begun v host cdb q admitted) n (oneMore (flushesOf (first .stage))))
             (mark-stays other)
 
     -- The last command, after no flush or after one.
@@ -333,11 +322,11 @@ module _ (past : List Deed) (u v : Unit) (known : Known past u) (same : Same u v
         on Straight e reached =
             let x = lastBy good (nextEffect host begun) host first in
             ends-on reply report (reply ∷ []) _ begun _ (x .unit) (got reply report false f ∙ ap (gets false reply) (reached .2))
-            (whole-once v (same .fine) (same .quiet) host below cdb _ _ q noted asked reply x (lastReport good first)
+            (whole-once v host cdb q admitted reply x (lastReport good first)
             (last-taken (nextEffect host begun) host first reply good (straight-no-flush (v .unsaved) first e) g)
             (last-report good (nextEffect host begun) host first))
             (stand-once reply report _ _)
-            (both-last u v begun host q first same (ready-begun v (same .fine) (same .quiet) host below cdb _ _ q noted asked) good)
+            (both-last u v begun host q first same (ready-begun v host cdb q admitted) good)
             (mark-stays (λ h is. straight-flushing (h .count) (sym (reached .0) ∙ ap (λ (y : Request). y .stage) (sym is) ∙ h .stage)))
         on (Flushing m) e reached =
             let zero = begins-at-zero (q .target) (noFlush cdb) m e in
@@ -346,9 +335,9 @@ module _ (past : List Deed) (u v : Unit) (known : Known past u) (same : Same u v
             let means = last-means (heldAt255 (flushesAnswered host past)) (u .unsaved) (lastOf (q .target)) (rw (reached .0) at f) in
             ends-on reply report (Good ∷ reply ∷ []) _ flushed _ (x .unit)
             (got reply report false f ∙ ap (gets false reply) (reached .1 ∙ some-good (flushesAnswered host past) (means .0)))
-            (whole-twice v (same .fine) (same .quiet) host below cdb _ _ q noted asked zero reply x (lastReport good p)
-            (last-taken (nextEffect host flushed) host p reply good (flushed-due v (same .fine) (same .quiet) host below cdb _ _ q noted asked) g)
+            (whole-twice v host cdb q admitted zero reply x (lastReport good p)
+            (last-taken (nextEffect host flushed) host p reply good (flushed-due v host cdb q admitted) g)
             (last-report good (nextEffect host flushed) host p))
             (stand-twice reply report _ _ _)
-            (both-last u v flushed host q p same (ready-flushed v (same .fine) (same .quiet) host below cdb _ _ q noted asked zero) good)
+            (both-last u v flushed host q p same (ready-flushed v host cdb q admitted zero) good)
             (inl (sym (means .1)))

@@ -48,7 +48,8 @@ use Rattle.calls.specs.Calls.{Call, tick, startStop, answer, requestSense, acce
 use Rattle.calls.proofs.Numbers.{clear-none, own-told, acceptance-does, start-wants, start-accepted}
 use Rattle.calls.proofs.Hosts.{own-slot}
 use Rattle.calls.proofs.WellFormed.{unit-fine, well-formed-kept, run-well-formed}
-use Rattle.runs.specs.Deeds.{Deed, begins, sends, goesOn, ends, does, aborts, refuses, beginning, another, deeds, isReset, doesA}
+use Rattle.calls.specs.Kinds.{isReset}
+use Rattle.runs.specs.Deeds.{Deed, begins, sends, goesOn, ends, does, aborts, refuses, beginning, another, deeds, doesA}
 use Rattle.runs.specs.Reports.{endsFor, beginsFor, endReports, stillOpen, fates, keepsHeld, WaitsAs, OneFate, OpenWaits, fails, EndReported, HeldTold}
 use Rattle.runs.proofs.Deeds.{Taken, deedAt, by-deed}
 use Rattle.runs.proofs.Known.{waiting-same, empty-waits, inside, slot-after, none-waits}

@@ -34,7 +34,8 @@ use Rattle.bridge.specs.declared.Reply.the-variants.{Good, Bad}
 use Rattle.bridge.specs.declared.Report.{Report}
 use Rattle.calls.specs.Calls.{Call, setFeatures, tick, read, write, powerOn, hardReset, softReset, requestSense, logPage, outcome, step, run}
 use Rattle.calls.proofs.WellFormed.{manufacture-well-formed}
-use Rattle.runs.specs.Deeds.{Deed, begins, sends, goesOn, ends, does, aborts, refuses, isPowerOn, isWrite, doesA}
+use Rattle.calls.specs.Kinds.{isPowerOn, isWrite}
+use Rattle.runs.specs.Deeds.{Deed, begins, sends, goesOn, ends, does, aborts, refuses, doesA}
 use Rattle.runs.specs.Past.{pastOf, cdbOf, flushSent, heldAt255}
 use Rattle.runs.specs.Serial.{nothingWaits}
 use Rattle.runs.specs.Safe.{latestPoweredOn, answeredGood, latestFlushed, Written, SincePowerOn, Safe, AllSafe, SomeUnsafe, flushing, asksFlush, latestIsLast, NoByteLeftBehind}

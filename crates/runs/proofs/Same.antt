@@ -2,17 +2,14 @@
 -- are always the same; condition and idle count whenever nothing waits in u, for an operation's last answer sets both by itself. The unsaved mark is the
 -- same too, but that a waiting operation's good flush may have cleared it in u alone; when that operation ends, its flush is run in v.
 use mathlib.Core.Path.{_≡_, refl, sym, ap, _∙_}
-use mathlib.Core.Bool.{Bool, true, false, not, _||_, cond, true≢false, false≢true}
-use mathlib.Core.List.{List, [], _∷_, _++_, append-nil}
-use mathlib.Core.Logic.{_⊎_, inl, inr, ⊎-elim}
-use Prim.Native.Nat.{ℕ, zero, suc}
-use native.Mathlib.Omega.{arith}
-use lib.Dec.{eqb, ltb}
-use lib.ListN.{length, set, replicate}
-use borrow.Author.Tests.{eq-eqb, eqb-true, not-false}
-use Rattle.rows.specs.Rows.{everyAt}
+use mathlib.Core.Bool.{Bool, true, false, cond, false≢true}
+use mathlib.Core.List.{List, [], _∷_}
+use mathlib.Core.Logic.{_⊎_, inl, inr}
+use Prim.Native.Nat.{ℕ}
+use lib.Dec.{eqb}
+use lib.ListN.{set}
 use Rattle.drive.specs.Records.{largest}
-use Rattle.drive.specs.Drives.{ticked, used, poweredOn}
+use Rattle.drive.specs.Drives.{restarted, ticked, used, poweredOn}
 use Rattle.drive.specs.declared.Record.{Record}
 use Rattle.drive.specs.declared.Tenths.{Tenths}
 use Rattle.drive.specs.declared.Power.{Power}
@@ -20,42 +17,32 @@ use Rattle.drive.specs.declared.Drive.{Drive}
 use Rattle.drive.proofs.Ticks.{tick-records}
 use Rattle.epc.specs.Epc.{aborts as epcAborts, performed}
 use Rattle.epc.specs.declared.Registers.{Registers}
-use Rattle.epc.proofs.Effects.{either, records-after}
-use Rattle.unit.specs.Units.{emptySlot, slotOf, isWaiting, isOut, wellFormed, withDrive, withSlot, rested}
+use Rattle.epc.proofs.Effects.{records-after}
+use Rattle.unit.specs.Units.{slotOf, isOut, wellFormed, withDrive, rested}
 use Rattle.unit.specs.Refusals.{lowest}
 use Rattle.unit.specs.Calls.{epcRows, tickRows, mediumRows, resetRows, senseRows, logRows, epcEffect, tickEffect, readEffect, writeEffect, powerOnEffect, hardResetEffect, senseEffect}
 use Rattle.unit.specs.declared.Refusal.the-variants.{Aborted}
 use Rattle.unit.specs.declared.Verdict.the-variants.{Clear, Given}
-use Rattle.unit.specs.declared.Target.{Target}
-use Rattle.unit.specs.declared.Stage.{Stage}
-use Rattle.unit.specs.declared.Stage.the-variants.{Straight, Flushing}
+use Rattle.unit.specs.declared.Stage.the-variants.{Flushing}
 use Rattle.unit.specs.declared.Request.{Request}
 use Rattle.unit.specs.declared.Slot.{Slot}
-use Rattle.unit.specs.declared.Slot.the-variants.{Empty, Waiting}
+use Rattle.unit.specs.declared.Slot.the-variants.{Waiting}
 use Rattle.unit.specs.declared.HostSlot.{HostSlot}
-use Rattle.unit.specs.declared.HostHeld.{HostHeld}
-use Rattle.unit.specs.declared.Failure.{Failure}
-use Rattle.unit.specs.declared.Failure.the-variants.{CommandSequence}
 use Rattle.unit.specs.declared.Out.the-variants.{NoneOut}
 use Rattle.unit.specs.declared.Unit.{Unit}
-use Rattle.bridge.specs.Cdb.{wanted, requestFor}
-use Rattle.bridge.specs.Operations.{dueFrom, isFlush, oneMore, flushesOf, heldIf, flushCounted, flushedWell, failed, succeeded, countsAsGood, answeredFor}
-use Rattle.bridge.specs.Bridge.{startStopRows, nextRows, nextEffect, answerRows}
-use Rattle.bridge.specs.declared.Wanted.the-variants.{Wants}
-use Rattle.bridge.specs.declared.Reply.{Reply}
-use Rattle.bridge.specs.declared.Reply.the-variants.{Good, Bad}
-use Rattle.calls.specs.Calls.{Call, setFeatures, tick, read, write, powerOn, hardReset, softReset, requestSense, logPage, Said, outcome, step, run}
+use Rattle.calls.specs.Calls.{Call, setFeatures, tick, read, write, powerOn, hardReset, softReset, requestSense, logPage, Said, outcome}
 use Rattle.calls.specs.Table.{verdictIn}
 use Rattle.calls.specs.Numbers.{ownRows, effect}
 use Rattle.calls.proofs.Numbers.{clear-none, own-told, refusal-keeps, own-effect}
-use Rattle.calls.proofs.Hosts.{own-slot, other-slot}
-use Rattle.calls.proofs.WellFormed.{unit-fine, well-formed-kept, run-well-formed}
-use Rattle.runs.specs.Deeds.{Deed, begins, sends, goesOn, ends, does, aborts, refuses, another, deedOf, isReset, doesA}
-use Rattle.runs.specs.Past.{cdbOf, replies}
-use Rattle.runs.specs.Serial.{whole, inPlaceOf, gather, refusedIn, otherIn, begunIn, beginnerIn, enderIn}
-use Rattle.runs.proofs.Deeds.{Taken, Cases, deedAt, by-deed}
-use Rattle.runs.proofs.Known.{Noted, Known, inside, empty-waits, none-waits}
-use Rattle.runs.proofs.Whole.{Quiet, quiet-out, RunsTo, runs-nothing, runs-on, Ready}
+use Rattle.calls.proofs.Hosts.{other-slot}
+use Rattle.calls.proofs.WellFormed.{run-well-formed}
+use Rattle.calls.specs.Kinds.{isReset}
+use Rattle.runs.specs.Deeds.{Deed, begins, sends, goesOn, ends, does, aborts, refuses, another, deedOf, doesA}
+use Rattle.runs.specs.Past.{cdbOf}
+use Rattle.runs.specs.Serial.{inPlaceOf, gather, refusedIn, otherIn, begunIn, beginnerIn, enderIn}
+use Rattle.runs.proofs.Known.{empty-waits, none-waits}
+use Rattle.runs.proofs.RunsTo.{RunsTo, runs-nothing, runs-on}
+use Rattle.runs.proofs.Whole.{Quiet, quiet-out}
 
 -- ---- the two records
 
@@ -173,35 +160,38 @@ module _ (past : List Deed) (u v : Unit) (fine : wellFormed u ≡ true) (same : 
         stand = record { none-refused = refl; same-others = refl; beginner = refl; begun = λ k. refl };
       }
 
-  -- ---- the drive's own calls
+  -- ---- calls that change the drive alone
 
   drives-same : Quiet u → v .drive ≡ u .drive
   drives-same quiet = drive-same (v .drive) (u .drive) (same .records) (same .at-rest quiet .0) (same .at-rest quiet .1)
+
+  -- Both records with another drive.
+  with-drives : (d e : Drive) → e .records ≡ d .records → (Quiet u → (e .power ≡ d .power) × (e .idle ≡ d .idle))
+      → wellFormed (withDrive e v) ≡ true → Same (withDrive d u) (withDrive e v)
+  with-drives d e records rest ok = record {
+    fine = ok;
+    quiet = same .quiet;
+    records = records;
+    stopped = same .stopped;
+    held = same .held;
+    unsaved = same .unsaved;
+    at-rest = rest;
+  }
 
   tick-clear : lowest (tickRows v) ≡ Clear
   unfolding lowest
   tick-clear = rw (same .fine)
 
+  -- With a command out something waits, so only the records are compared.
   ticked-same : (b : Bool) → isOut (u .out) ≡ b → wellFormed (withDrive (ticked largest (v .drive)) v) ≡ true
       → Same (cond b u (withDrive (ticked largest (u .drive)) u)) (withDrive (ticked largest (v .drive)) v)
-  ticked-same true out ok = record {
-    fine = ok;
-    quiet = same .quiet;
-    records = tick-records largest (v .drive) ∙ same .records;
-    stopped = same .stopped;
-    held = same .held;
-    unsaved = same .unsaved;
-    at-rest = λ quiet. absurd (false≢true (sym (ap isOut (quiet-out u fine quiet)) ∙ out));
-  }
-  ticked-same false out ok = record {
-    fine = ok;
-    quiet = same .quiet;
-    records = tick-records largest (v .drive) ∙ same .records ∙ sym (tick-records largest (u .drive));
-    stopped = same .stopped;
-    held = same .held;
-    unsaved = same .unsaved;
-    at-rest = λ quiet. (rw (drives-same quiet), rw (drives-same quiet));
-  }
+  ticked-same true out =
+      with-drives (u .drive) (ticked largest (v .drive)) (tick-records largest (v .drive) ∙ same .records)
+      (λ quiet. absurd (false≢true (sym (ap isOut (quiet-out u fine quiet)) ∙ out)))
+  ticked-same false out =
+      with-drives (ticked largest (u .drive)) (ticked largest (v .drive))
+      (tick-records largest (v .drive) ∙ same .records ∙ sym (tick-records largest (u .drive)))
+      (λ quiet. (rw (drives-same quiet), rw (drives-same quiet)))
 
   pub ticks-on : Stands (does tick) (tickEffect u)
   ticks-on r =
@@ -216,36 +206,24 @@ module _ (past : List Deed) (u v : Unit) (fine : wellFormed u ≡ true) (same : 
   records-same q = records-after q (v .drive) ∙ rw (same .records) (sym (records-after q (u .drive)))
 
   pub epc-on : (q : Registers) → lowest (epcRows u q) ≡ Clear → Stands (does (setFeatures q)) (epcEffect q u)
-  epc-on q clear r = itself (setFeatures q) (epcEffect q u) (epcEffect q v) (λ said. refl) (epc-clear q clear) refl (λ ok. record {
-    fine = ok;
-    quiet = same .quiet;
-    records = records-same q;
-    stopped = same .stopped;
-    held = same .held;
-    unsaved = same .unsaved;
-    at-rest = λ quiet. (rw (drives-same quiet), rw (drives-same quiet));
-  })
+  epc-on q clear r =
+      itself (setFeatures q) (epcEffect q u) (epcEffect q v) (λ said. refl) (epc-clear q clear) refl
+      (with-drives (performed q (u .drive)) (performed q (v .drive)) (records-same q) (λ quiet. (rw (drives-same quiet), rw (drives-same quiet))))
 
-  aborts-clear : (q : Registers) → epcAborts q (u .drive .records) ≡ true → lowest (epcRows v q) ≡ Given Aborted
+  aborts-given : (q : Registers) → epcAborts q (u .drive .records) ≡ true → lowest (epcRows v q) ≡ Given Aborted
   unfolding lowest
-  aborts-clear q ten = rw (same .fine, none-out, same .records, ten)
+  aborts-given q ten = rw (same .fine, none-out, same .records, ten)
 
   pub aborts-on : (q : Registers) → epcAborts q (u .drive .records) ≡ true → Stands (aborts (setFeatures q)) (rested u)
   aborts-on q ten r =
-      let runs = aborted-here v q (aborts-clear q ten) in
+      let runs = aborted-here v q (aborts-given q ten) in
       record {
         ds = aborts (setFeatures q) ∷ [];
         v' = rested v;
         runs = runs;
-        same = record {
-          fine = left-fine v (rested v) _ _ (same .fine) runs;
-          quiet = same .quiet;
-          records = same .records;
-          stopped = same .stopped;
-          held = same .held;
-          unsaved = same .unsaved;
-          at-rest = λ quiet. (same .at-rest quiet .0, refl);
-        };
+        same =
+            with-drives (restarted (u .drive)) (restarted (v .drive)) (same .records) (λ quiet. (same .at-rest quiet .0, refl))
+            (left-fine v (rested v) _ _ (same .fine) runs);
         stand = record { none-refused = refl; same-others = refl; beginner = refl; begun = λ k. refl };
       }
 
@@ -258,15 +236,9 @@ module _ (past : List Deed) (u v : Unit) (fine : wellFormed u ≡ true) (same : 
 
   pub reads-on : (host : ℕ) → lowest (mediumRows u host) ≡ Clear → Stands (does (read host)) (readEffect u)
   unfolding used
-  reads-on host clear r = itself (read host) (readEffect u) (readEffect v) (λ said. refl) (medium-clear host clear) refl (λ ok. record {
-    fine = ok;
-    quiet = same .quiet;
-    records = same .records;
-    stopped = same .stopped;
-    held = same .held;
-    unsaved = same .unsaved;
-    at-rest = λ quiet. (refl, refl);
-  })
+  reads-on host clear r =
+      itself (read host) (readEffect u) (readEffect v) (λ said. refl) (medium-clear host clear) refl
+      (with-drives (used (u .drive)) (used (v .drive)) (same .records) (λ quiet. (refl, refl)))
 
   pub writes-on : (host : ℕ) → lowest (mediumRows u host) ≡ Clear → Stands (does (write host)) (writeEffect u)
   unfolding used
@@ -340,3 +312,18 @@ module _ (past : List Deed) (u v : Unit) (fine : wellFormed u ≡ true) (same : 
 
   pub logs-on : (buffer : List ℕ) → lowest (logRows u buffer) ≡ Clear → Stands (does (logPage buffer)) u
   logs-on buffer clear r = itself (logPage buffer) u v (λ said. refl) (log-clear buffer clear) refl (λ ok. same)
+
+  -- ---- an operation under way: nothing stands in the serial run, and something waits in the real one
+
+  pub waits-on : (d : Deed) (u' : Unit) → inPlaceOf past d ≡ [] → StandFor past d [] → (host : ℕ) (q : Request) → slotOf (u' .slots) host ≡ Waiting q
+      → u' .drive .records ≡ u .drive .records → u' .stopped ≡ u .stopped → u' .held ≡ u .held → SameMark (u' .slots) (u' .unsaved) (v .unsaved)
+      → Follows past v d u'
+  waits-on d u' none stand host q waits records stopped held mark = nothing d u' none stand (record {
+    fine = same .fine;
+    quiet = same .quiet;
+    records = same .records ∙ sym records;
+    stopped = same .stopped ∙ sym stopped;
+    held = same .held ∙ sym held;
+    unsaved = mark;
+    at-rest = λ quiet. empty-waits q (sym (quiet host) ∙ waits);
+  })

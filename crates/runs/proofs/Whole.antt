@@ -1,17 +1,15 @@
 -- An operation run whole on a record with nothing waiting: it is accepted, each question gets its command and each answer is taken, so what it leaves
 -- is what the last answer leaves. It has one answer, or a good flush's and one more.
 use mathlib.Core.Path.{_≡_, refl, sym, ap, _∙_}
-use mathlib.Core.Bool.{Bool, true, false, not, _&&_, cond, false≢true}
+use mathlib.Core.Bool.{Bool, true, false, cond, false≢true}
 use mathlib.Core.List.{List, [], _∷_}
-use Prim.Native.Nat.{ℕ, _<_, _≤_}
-use native.Mathlib.Omega.{arith}
+use Prim.Native.Nat.{ℕ, _<_}
 use lib.Dec.{eqb, ltb}
 use lib.ListN.{length, set}
-use borrow.Author.Tests.{eq-eqb, eqb-false}
-use Rattle.unit.specs.Units.{emptySlot, slotOf, isWaiting, isOut, requestWellFormed, outWellFormed, wellFormed, withSlot, rested}
+use borrow.Author.Tests.{eqb-false}
+use Rattle.unit.specs.Units.{emptySlot, slotOf, isWaiting, outWellFormed, wellFormed, withSlot, rested}
 use Rattle.unit.specs.Refusals.{lowest}
-use Rattle.unit.specs.declared.Target.{Target}
-use Rattle.unit.specs.declared.Stage.the-variants.{Straight, Flushing}
+use Rattle.unit.specs.declared.Stage.the-variants.{Flushing}
 use Rattle.unit.specs.declared.Request.{Request}
 use Rattle.unit.specs.declared.Slot.the-variants.{Empty, Waiting}
 use Rattle.unit.specs.declared.HostSlot.{HostSlot}
@@ -19,29 +17,27 @@ use Rattle.unit.specs.declared.Out.{Out}
 use Rattle.unit.specs.declared.Out.the-variants.{NoneOut, OutFor}
 use Rattle.unit.specs.declared.Verdict.the-variants.{Clear}
 use Rattle.unit.specs.declared.Unit.{Unit}
-use Rattle.drive.specs.declared.Record.{Record}
-use Rattle.bridge.specs.Cdb.{reservedOne, wanted, isListed, requestFor}
+use Rattle.bridge.specs.Cdb.{immed, wanted, requestFor}
 use Rattle.bridge.specs.Operations.{registersOf, dueFrom, isFlush, flushCounted, flushedWell, answeredFor}
-use Rattle.bridge.specs.Bridge.{startStopRows, nextRows, nextEffect, answerRows}
+use Rattle.bridge.specs.Bridge.{startStopRows, nextEffect}
 use Rattle.bridge.specs.declared.Wanted.the-variants.{Wants}
 use Rattle.bridge.specs.declared.StartStopped.{StartStopped}
-use Rattle.bridge.specs.declared.Next.the-variants.{Send}
 use Rattle.bridge.specs.declared.Asked.{Asked}
 use Rattle.bridge.specs.declared.Reply.{Reply}
 use Rattle.bridge.specs.declared.Reply.the-variants.{Good}
 use Rattle.bridge.specs.declared.Report.{Report}
 use Rattle.bridge.specs.declared.Progress.the-variants.{Ended}
 use Rattle.bridge.specs.declared.Replied.{Replied}
-use Rattle.calls.specs.Calls.{Call, startStop, next, answer, progressed, step, run, history}
-use Rattle.calls.proofs.Numbers.{own-told, start-accepted, next-accepted, answer-accepted}
+use Rattle.calls.specs.Calls.{Call, startStop, next, answer, progressed, step}
+use Rattle.calls.proofs.Numbers.{clear-none, own-told, start-accepted, next-accepted, answer-accepted}
 use Rattle.calls.proofs.Hosts.{own-slot, other-slot}
-use Rattle.calls.proofs.Requests.{request-fits}
 use Rattle.calls.proofs.WellFormed.{unit-fine, well-formed-kept}
 use Rattle.calls.proofs.Progress.{next-clear, answer-clear, last-no-flush, counted-due}
-use Rattle.runs.specs.Deeds.{Deed, begins, sends, goesOn, ends, answering, deeds}
+use Rattle.runs.specs.Deeds.{Deed, begins, sends, goesOn, ends, answering}
 use Rattle.runs.specs.Serial.{whole}
 use Rattle.runs.proofs.Deeds.{deedAt}
-use Rattle.runs.proofs.Known.{Noted, inside, slot-after}
+use Rattle.runs.proofs.RunsTo.{RunsTo, runs-nothing, runs-on}
+use Rattle.runs.proofs.Known.{inside, slot-after}
 
 -- ---- a record with nothing waiting
 
@@ -58,37 +54,13 @@ quiet-out v fine quiet = on (v .out) (unit-fine v .0 fine .out)
 
 -- ---- acceptance
 
-module _ (v : Unit) (fine : wellFormed v ≡ true) (quiet : Quiet v) (host : ℕ) (below : ltb 3 host ≡ false)
-    (cdb : List ℕ) (n : ℕ) (answers : List Reply) (q : Request) (noted : Noted cdb n answers q)
-    (asked : requestWellFormed (v .drive .records) (q .target) (q .stage) ≡ true) where
-  listed : isListed (v .drive .records) cdb ≡ true
-  unfolding isListed
-  listed = rw (noted .unreserved, noted .wants) (request-fits (v .drive .records) (q .target) (q .stage) asked)
-
-  accepts : lowest (startStopRows v host cdb) ≡ Clear
-  unfolding lowest
-  accepts =
-      rw (eq-eqb _ _ (noted .six), below, fine, quiet-out v fine quiet, quiet host, eq-eqb _ _ (noted .opcode), listed)
-
-  pub begins-whole : (deedAt v (startStop host cdb) ≡ begins host cdb)
-      × (step v (startStop host cdb) ≡ withSlot host (Waiting (requestFor (q .target) cdb)) (rested v))
-  begins-whole = (
-    rw (own-told v (startStop host cdb), accepts),
-    ap (λ (r : StartStopped). r .unit) (start-accepted v host cdb (q .target) accepts (noted .wants)),
-  )
-
--- ---- a run with its deeds and the record that it leaves
-
-pub record RunsTo (v : Unit) (cs : List Call) (ds : List Deed) (w : Unit) : Type 0 where
-  pub came : deeds (history v cs) ≡ ds
-  pub left : run v cs ≡ w
-
-pub runs-nothing : (v : Unit) → RunsTo v [] [] v
-runs-nothing v = record { came = refl; left = refl }
-
-pub runs-on : (v w x : Unit) (c : Call) (d : Deed) (cs : List Call) (ds : List Deed) → deedAt v c ≡ d → step v c ≡ w → RunsTo w cs ds x
-    → RunsTo v (c ∷ cs) (d ∷ ds) x
-runs-on v w x c d cs ds deed left more = record { came = rw (deed, left) (ap (λ l. d ∷ l) (more .came)); left = rw left (more .left) }
+-- Nothing waits in v, and START STOP UNIT is accepted from the host with this CDB, as this request's.
+pub record Admitted (v : Unit) (host : ℕ) (cdb : List ℕ) (q : Request) : Type 0 where
+  pub fine : wellFormed v ≡ true
+  pub quiet : Quiet v
+  pub clear : lowest (startStopRows v host cdb) ≡ Clear
+  pub wants : wanted cdb ≡ Wants (q .target)
+  pub immediate : immed cdb ≡ q .immed
 
 -- ---- a question and its answer
 
@@ -133,45 +105,55 @@ pub record Ready (v w : Unit) (host : ℕ) (q p : Request) : Type 0 where
   pub immediate : p .immed ≡ q .immed
 
 -- Whatever is put in the slot, once it is emptied nothing waits.
-emptied : (v : Unit) → Quiet v → (host : ℕ) (l : List HostSlot) → ((k : ℕ) → (k ≡ host → ⊥) → slotOf l k ≡ Empty) → host < length l
+emptied : (host : ℕ) (l : List HostSlot) → ((k : ℕ) → (k ≡ host → ⊥) → slotOf l k ≡ Empty) → host < length l
     → (k : ℕ) → slotOf (set l host emptySlot) k ≡ Empty
-emptied v quiet host l rest h k = slot-after l host k Empty h ∙ on (eqb host k) refl
+emptied host l rest h k = slot-after l host k Empty h ∙ on (eqb host k) refl
   where
     on : (b : Bool) → eqb host k ≡ b → cond b Empty (slotOf l k) ≡ Empty
     on true e = refl
     on false e = rest k (λ same. eqb-false host k e (sym same))
 
-module _ (v : Unit) (fine : wellFormed v ≡ true) (quiet : Quiet v) (host : ℕ) (below : ltb 3 host ≡ false)
-    (cdb : List ℕ) (n : ℕ) (answers : List Reply) (q : Request) (noted : Noted cdb n answers q)
-    (asked : requestWellFormed (v .drive .records) (q .target) (q .stage) ≡ true) where
-  -- the record after acceptance
+module _ (v : Unit) (host : ℕ) (cdb : List ℕ) (q : Request) (a : Admitted v host cdb q) where
+  below : ltb 3 host ≡ false
+  below = clear-none (startStopRows v host cdb) (a .clear) 1
+
+  none-out : v .out ≡ NoneOut
+  none-out = quiet-out v (a .fine) (a .quiet)
+
+  -- The request and the record after acceptance.
   abbrev first : Request
   first = requestFor (q .target) cdb
 
   abbrev begun : Unit
   begun = withSlot host (Waiting first) (rested v)
 
+  accepts : (deedAt v (startStop host cdb) ≡ begins host cdb) × (step v (startStop host cdb) ≡ begun)
+  accepts = (
+    rw (own-told v (startStop host cdb), a .clear),
+    ap (λ (r : StartStopped). r .unit) (start-accepted v host cdb (q .target) (a .clear) (a .wants)),
+  )
+
   begun-fine : wellFormed begun ≡ true
-  begun-fine = rw (← begins-whole v fine quiet host below cdb n answers q noted asked .1) (well-formed-kept v (startStop host cdb) fine)
+  begun-fine = rw (← accepts .1) (well-formed-kept v (startStop host cdb) (a .fine))
 
   first-waits : slotOf (begun .slots) host ≡ Waiting first
-  first-waits = own-slot (v .slots) host (Waiting first) (inside v host fine below)
+  first-waits = own-slot (v .slots) host (Waiting first) (inside v host (a .fine) below)
 
   begun-others : (k : ℕ) → (k ≡ host → ⊥) → slotOf (begun .slots) k ≡ Empty
-  begun-others k other = other-slot host k other (v .slots) (Waiting first) ∙ quiet k
+  begun-others k other = other-slot host k other (v .slots) (Waiting first) ∙ a .quiet k
 
   -- So it does once it is accepted,
   pub ready-begun : Ready v begun host q first
   ready-begun = record {
     fine = begun-fine;
     waits = first-waits;
-    out = quiet-out v fine quiet;
+    out = none-out;
     records = refl;
     stopped = refl;
     held = refl;
-    others = emptied v quiet host (begun .slots) begun-others (inside begun host begun-fine below);
+    others = emptied host (begun .slots) begun-others (inside begun host begun-fine below);
     target = refl;
-    immediate = noted .immediate;
+    immediate = a .immediate;
   }
 
   -- and again after a flush answered good, with its last command due.
@@ -187,7 +169,7 @@ module _ (v : Unit) (fine : wellFormed v ≡ true) (quiet : Quiet v) (host : ℕ
 
   pub ready-flushed : first .stage ≡ Flushing 0 → Ready v (flushed .unit) host q (flushCounted first)
   ready-flushed e =
-      let w-fine = taken-fine begun begun-fine host first first-waits (quiet-out v fine quiet) Good flushed (flush-taken e) in
+      let w-fine = taken-fine begun begun-fine host first first-waits none-out Good flushed (flush-taken e) in
       let p = flushCounted first in
       record {
         fine = w-fine;
@@ -197,19 +179,18 @@ module _ (v : Unit) (fine : wellFormed v ≡ true) (quiet : Quiet v) (host : ℕ
         stopped = refl;
         held = refl;
         others =
-            emptied v quiet host (flushed .unit .slots)
+            emptied host (flushed .unit .slots)
             (λ k other. other-slot host k other (begun .slots) (Waiting p) ∙ begun-others k other)
             (inside (flushed .unit) host w-fine below);
         target = refl;
-        immediate = noted .immediate;
+        immediate = a .immediate;
       }
 
   -- ---- run whole
 
   begins-then : (cs : List Call) (ds : List Deed) (y : Unit) → RunsTo begun cs ds y → RunsTo v (startStop host cdb ∷ cs) (begins host cdb ∷ ds) y
   begins-then cs ds y more =
-      let b = begins-whole v fine quiet host below cdb n answers q noted asked in
-      runs-on v begun y (startStop host cdb) (begins host cdb) cs ds (b .0) (b .1) more
+      runs-on v begun y (startStop host cdb) (begins host cdb) cs ds (accepts .0) (accepts .1) more
 
   -- With one answer, which ends it.
   pub whole-once : (reply : Reply) (x : Replied) (report : Report) → answeredFor (nextEffect host begun) host first reply ≡ x
@@ -218,7 +199,7 @@ module _ (v : Unit) (fine : wellFormed v ≡ true) (quiet : Quiet v) (host : ℕ
       (begins host cdb ∷ sends host (registersOf (dueFrom (v .unsaved) first)) ∷ ends host reply report ∷ []) (x .unit)
   whole-once reply x report e over =
       begins-then _ _ _
-      (rw over at (asked-once begun begun-fine host first first-waits (quiet-out v fine quiet) reply x e [] [] (x .unit) (runs-nothing (x .unit))))
+      (rw over at (asked-once begun begun-fine host first first-waits none-out reply x e [] [] (x .unit) (runs-nothing (x .unit))))
 
   -- With a good flush's answer and one more.
   pub whole-twice : first .stage ≡ Flushing 0 → (reply : Reply) (x : Replied) (report : Report)
@@ -233,5 +214,5 @@ module _ (v : Unit) (fine : wellFormed v ≡ true) (quiet : Quiet v) (host : ℕ
   whole-twice flushes reply x report e over =
       let r = ready-flushed flushes in
       begins-then _ _ _
-      (asked-once begun begun-fine host first first-waits (quiet-out v fine quiet) Good flushed (flush-taken flushes) _ _ (x .unit)
+      (asked-once begun begun-fine host first first-waits none-out Good flushed (flush-taken flushes) _ _ (x .unit)
       (rw over at (asked-once (flushed .unit) (r .fine) host (flushCounted first) (r .waits) refl reply x e [] [] (x .unit) (runs-nothing (x .unit)))))

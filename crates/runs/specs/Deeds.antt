@@ -1,5 +1,5 @@
 -- What each call of a history came to, as far as a run is concerned: the call with what it said, and nothing of the record.
-use mathlib.Core.Bool.{Bool, true, false, cond}
+use mathlib.Core.Bool.{Bool, false, cond}
 use mathlib.Core.List.{List, map}
 use Prim.Native.Nat.{ℕ}
 use lib.Dec.{eqb}
@@ -77,66 +77,6 @@ deedIn e = deedOf (e .call) (e .came .said)
 
 abbrev pub deeds : List Event → List Deed
 deeds es = map deedIn es
-
--- ---- calls of a kind
-
--- One of the three resets.
-abbrev pub isReset : Call → Bool
-isReset (setFeatures q) = false
-isReset tick = false
-isReset (read host) = false
-isReset (write host) = false
-isReset powerOn = true
-isReset hardReset = true
-isReset softReset = true
-isReset (startStop host cdb) = false
-isReset (next host) = false
-isReset (answer host reply) = false
-isReset (requestSense host buffer) = false
-isReset (logPage buffer) = false
-
-abbrev pub isPowerOn : Call → Bool
-isPowerOn (setFeatures q) = false
-isPowerOn tick = false
-isPowerOn (read host) = false
-isPowerOn (write host) = false
-isPowerOn powerOn = true
-isPowerOn hardReset = false
-isPowerOn softReset = false
-isPowerOn (startStop host cdb) = false
-isPowerOn (next host) = false
-isPowerOn (answer host reply) = false
-isPowerOn (requestSense host buffer) = false
-isPowerOn (logPage buffer) = false
-
-abbrev pub isWrite : Call → Bool
-isWrite (setFeatures q) = false
-isWrite tick = false
-isWrite (read host) = false
-isWrite (write host) = true
-isWrite powerOn = false
-isWrite hardReset = false
-isWrite softReset = false
-isWrite (startStop host cdb) = false
-isWrite (next host) = false
-isWrite (answer host reply) = false
-isWrite (requestSense host buffer) = false
-isWrite (logPage buffer) = false
-
--- REQUEST SENSE from this host.
-abbrev pub isSenseOf : ℕ → Call → Bool
-isSenseOf k (setFeatures q) = false
-isSenseOf k tick = false
-isSenseOf k (read host) = false
-isSenseOf k (write host) = false
-isSenseOf k powerOn = false
-isSenseOf k hardReset = false
-isSenseOf k softReset = false
-isSenseOf k (startStop host cdb) = false
-isSenseOf k (next host) = false
-isSenseOf k (answer host reply) = false
-isSenseOf k (requestSense host buffer) = eqb host k
-isSenseOf k (logPage buffer) = false
 
 -- An accepted call that passes the test.
 abbrev pub doesA : (Call → Bool) → Deed → Bool

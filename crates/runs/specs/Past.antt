@@ -1,5 +1,5 @@
 -- What the calls so far say of a host's operation. A past is the deeds of a run with the latest first.
-use mathlib.Core.Bool.{Bool, true, false, _&&_, cond}
+use mathlib.Core.Bool.{Bool, false, _&&_, cond}
 use mathlib.Core.List.{List, [], _∷_, _++_, reverse}
 use Prim.Native.Nat.{ℕ, suc}
 use lib.Dec.{eqb, ltb}

@@ -27,7 +27,8 @@ use Rattle.bridge.specs.declared.Report.{Report}
 use Rattle.bridge.specs.declared.Status.{Status}
 use Rattle.bridge.specs.declared.Status.the-variants.{NoStatus, GoodStatus, CheckCondition}
 use Rattle.calls.specs.Calls.{Call, startStop, answer, requestSense, Said, accepted, StepFunction, runBy, historyBy}
-use Rattle.runs.specs.Deeds.{Deed, begins, sends, goesOn, ends, does, aborts, refuses, deedOf, deeds, isReset, isSenseOf, doesA}
+use Rattle.calls.specs.Kinds.{isReset, isSenseOf}
+use Rattle.runs.specs.Deeds.{Deed, begins, sends, goesOn, ends, does, aborts, refuses, deedOf, deeds, doesA}
 
 -- ---- an accepted START STOP UNIT of host k
 
@@ -99,7 +100,7 @@ defersFor k (refuses c) = false
 
 -- The host's held sense stays through these: no newer failure of its own is held, no reset, no REQUEST SENSE of its own is accepted.
 abbrev pub keepsHeld : ℕ → ℕ → Deed → Bool
-keepsHeld k at d = not (defersFor k d) && not (doesA isReset d) && not (doesA (isSenseOf k) d)
+keepsHeld k at d = not (defersFor k d) && not (doesA isReset d) && not (doesA (isSenseOf (λ host. eqb host k)) d)
 
 -- ---- the statements, of any step function
 

@@ -13,7 +13,8 @@ use Rattle.bridge.specs.Operations.{isGood}
 use Rattle.bridge.specs.declared.Wanted.{Wanted}
 use Rattle.bridge.specs.declared.Wanted.the-variants.{Wants, Unlisted}
 use Rattle.calls.specs.Calls.{Call, StepFunction}
-use Rattle.runs.specs.Deeds.{Deed, begins, sends, goesOn, ends, does, aborts, refuses, isPowerOn, isWrite, doesA}
+use Rattle.calls.specs.Kinds.{isPowerOn, isWrite}
+use Rattle.runs.specs.Deeds.{Deed, begins, sends, goesOn, ends, does, aborts, refuses, doesA}
 use Rattle.runs.specs.Past.{pastBy, cdbOf, flushSent}
 
 -- ---- what the latest call was

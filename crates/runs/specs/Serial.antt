@@ -13,8 +13,9 @@ use Rattle.unit.specs.Units.{isWaiting, wellFormed}
 use Rattle.unit.specs.declared.HostHeld.{HostHeld}
 use Rattle.unit.specs.declared.Unit.{Unit}
 use Rattle.bridge.specs.declared.Reply.{Reply}
-use Rattle.calls.specs.Calls.{Call, startStop, next, answer, StepFunction, Event, runBy, historyBy, run, history}
-use Rattle.runs.specs.Deeds.{Deed, begins, sends, goesOn, ends, does, aborts, refuses, deeds, isReset}
+use Rattle.calls.specs.Calls.{Call, startStop, next, answer, StepFunction, Event, runBy, historyBy, run}
+use Rattle.calls.specs.Kinds.{isReset}
+use Rattle.runs.specs.Deeds.{Deed, begins, sends, goesOn, ends, does, aborts, refuses, deeds}
 use Rattle.runs.specs.Past.{cdbOf, replies}
 
 -- ---- the serial run

@@ -5,8 +5,6 @@ use Rattle.drive.specs.declared.Power.the-variants.{Active}
 use Rattle.unit.specs.Units.{slotOf, withMarks}
 use Rattle.unit.specs.declared.Refusal.{Refusal}
 use Rattle.unit.specs.declared.Refusal.the-variants.{BadRecord, OwnWaiting}
-use Rattle.unit.specs.declared.Verdict.{Verdict}
-use Rattle.unit.specs.declared.Verdict.the-variants.{Clear, Given}
 use Rattle.unit.specs.declared.SenseDue.{SenseDue}
 use Rattle.unit.specs.declared.SenseDue.the-variants.{NoSense, WithSense}
 use Rattle.unit.specs.declared.Slot.{Slot}
@@ -20,7 +18,7 @@ use Rattle.bridge.specs.declared.Acceptance.the-variants.{GoodDue, Pending, Not
 use Rattle.bridge.specs.declared.Next.the-variants.{NotSent}
 use Rattle.bridge.specs.declared.Progress.the-variants.{More, Ended, NotTaken}
 use Rattle.calls.specs.Calls.{Call, setFeatures, tick, read, write, powerOn, hardReset, softReset, startStop, next, answer, requestSense, logPage, Said, plain, accepted, sent, progressed, Outcome, outcome, StepFunction}
-use Rattle.calls.specs.Table.{verdictIn}
+use Rattle.calls.specs.Table.{verdictIn, isClear}
 use Rattle.calls.specs.Numbers.{lent}
 use Rattle.runs.specs.Serial.{nothingWaits}
 
@@ -35,11 +33,6 @@ leaving u o = record { said = o .said; unit = u; buffer = o .buffer }
 -- The record with this unsaved mark.
 abbrev pub marked : Bool → Unit → Unit
 marked unsaved u = withMarks (u .stopped) unsaved u
-
--- The call is not refused.
-abbrev pub isClear : Verdict → Bool
-isClear Clear = true
-isClear (Given r) = false
 
 -- ---- "one that flushes once and skips every later flush"
 
