@@ -75,3 +75,18 @@ isSenseOf test (next host) = false
 isSenseOf test (answer host reply) = false
 isSenseOf test (requestSense host buffer) = test host
 isSenseOf test (logPage buffer) = false
+
+-- "a tick or a log page read".
+abbrev pub isTickOrLog : Call → Bool
+isTickOrLog (setFeatures q) = false
+isTickOrLog tick = true
+isTickOrLog (read host) = false
+isTickOrLog (write host) = false
+isTickOrLog powerOn = false
+isTickOrLog hardReset = false
+isTickOrLog softReset = false
+isTickOrLog (startStop host cdb) = false
+isTickOrLog (next host) = false
+isTickOrLog (answer host reply) = false
+isTickOrLog (requestSense host buffer) = false
+isTickOrLog (logPage buffer) = true

@@ -1,7 +1,7 @@
 -- The past knows the record: of each waiting operation the CDB, the flushes answered and the answers, and of what is out whether it is a flush.
 -- Each call keeps that, case by case; a case that changes a slot is split by whether it is this host's.
 use mathlib.Core.Path.{_≡_, refl, sym, ap, _∙_}
-use mathlib.Core.Bool.{Bool, true, false, not, cond, true≢false, false≢true}
+use mathlib.Core.Bool.{Bool, true, false, not, _||_, cond, true≢false, false≢true}
 use mathlib.Core.List.{List, [], _∷_, reverseAux}
 use Prim.Native.Nat.{ℕ, zero, suc, _+_, _<_}
 use native.Mathlib.Omega.{arith}
@@ -28,7 +28,7 @@ use Rattle.unit.specs.declared.Failure.the-variants.{CommandSequence}
 use Rattle.unit.specs.declared.Verdict.the-variants.{Clear}
 use Rattle.unit.specs.declared.Unit.{Unit}
 use Rattle.bridge.specs.Cdb.{byte, immed, noFlush, reservedOne, wanted, isListed, stageFor, requestFor}
-use Rattle.bridge.specs.Operations.{registersOf, dueFrom, isFlush, oneMore, flushesOf, flushCounted, flushedWell, failed, reportGood, reportFailed}
+use Rattle.bridge.specs.Operations.{registersOf, dueAt, dueFrom, isFlush, oneMore, flushesOf, flushCounted, flushedWell, failed, reportGood, reportFailed}
 use Rattle.bridge.specs.Bridge.{startStopRows, nextEffect, answerRows}
 use Rattle.bridge.specs.declared.Wanted.the-variants.{Wants}
 use Rattle.bridge.specs.declared.Due.{Due}
@@ -143,6 +143,15 @@ slot-after slots host k s h = on (eqb host k) refl
 -- An operation that sends no flush has no flush due.
 pub straight-no-flush : (unsaved : Bool) (q : Request) → q .stage ≡ Straight → isFlush (dueFrom unsaved q) ≡ false
 straight-no-flush unsaved q e = rw e (last-no-flush (q .target))
+
+-- One that flushes has its last command due once a flush is answered and nothing is unsaved.
+pub last-means : (n : ℕ) (unsaved : Bool) (last : Due) → isFlush (dueAt (Flushing n) unsaved last) ≡ false → (eqb n 0 ≡ false) × (unsaved ≡ false)
+last-means n unsaved last f = on (eqb n 0) unsaved f
+  where
+    on : (b c : Bool) → isFlush (cond (b || c) Flush last) ≡ false → (b ≡ false) × (c ≡ false)
+    on true c f = absurd (true≢false f)
+    on false true f = absurd (true≢false f)
+    on false false f = (refl, refl)
 
 -- A flush answered brings a flushing operation one further.
 flush-reached : (begun : Stage) (n : ℕ) (answers : List Reply) (unsaved : Bool) (q : Request) → Reached begun (q .stage) n answers

@@ -9,6 +9,7 @@ pub mod Demand3
 pub mod Safe
 pub mod FlushCount
 pub mod Reports
+pub mod Idle
 pub mod Computed
 pub mod WrongSteps
 pub mod Afternoon

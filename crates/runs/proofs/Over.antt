@@ -1,7 +1,7 @@
 -- Demand 3 at the calls of an operation. Until its last answer nothing stands in the serial run, and only the unsaved mark may come apart. At its last
 -- answer it is run whole there: both runs then have the same answer to the same command, which sets condition, idle count, marks and held sense alike.
 use mathlib.Core.Path.{_≡_, refl, sym, ap, _∙_}
-use mathlib.Core.Bool.{Bool, true, false, _||_, cond, true≢false}
+use mathlib.Core.Bool.{Bool, true, false, cond, true≢false}
 use mathlib.Core.List.{List, [], _∷_, append-nil}
 use mathlib.Core.Logic.{inl, inr}
 use Prim.Native.Nat.{ℕ, zero, suc}
@@ -26,8 +26,6 @@ use Rattle.unit.specs.declared.Unit.{Unit}
 use Rattle.bridge.specs.Cdb.{noFlush, isListed, stageFor, requestFor}
 use Rattle.bridge.specs.Operations.{registersOf, lastOf, dueFrom, isFlush, oneMore, flushesOf, reportGood, reportFailed, heldIf, flushCounted, flushedWell, failed, succeeded, countsAsGood, answeredFor}
 use Rattle.bridge.specs.Bridge.{startStopRows, nextEffect, answerRows}
-use Rattle.bridge.specs.declared.Due.{Due}
-use Rattle.bridge.specs.declared.Due.the-variants.{Flush}
 use Rattle.bridge.specs.declared.Reply.{Reply}
 use Rattle.bridge.specs.declared.Reply.the-variants.{Good, Bad}
 use Rattle.bridge.specs.declared.Report.{Report}
@@ -42,7 +40,7 @@ use Rattle.runs.specs.Deeds.{Deed, begins, sends, goesOn, ends}
 use Rattle.runs.specs.Past.{cdbOf, gets, replies, flushesAnswered, heldAt255}
 use Rattle.runs.specs.Serial.{whole}
 use Rattle.runs.proofs.Deeds.{Taken}
-use Rattle.runs.proofs.Known.{goods, Reached, NotedBy, Known, waiting-same, sent-due, inside, straight-no-flush}
+use Rattle.runs.proofs.Known.{goods, Reached, NotedBy, Known, waiting-same, sent-due, inside, straight-no-flush, last-means}
 use Rattle.runs.proofs.RunsTo.{RunsTo}
 use Rattle.runs.proofs.Whole.{Quiet, quiet-out, Admitted, Ready, ready-begun, ready-flushed, flushed-due, whole-once, whole-twice}
 use Rattle.runs.proofs.Same.{Helped, SameMark, Same, StandFor, Follows, Stands, left-fine, waits-on, mark-beside}
@@ -147,18 +145,9 @@ helper-is slots mark h host q waits e = waiting-same (h .request) q (sym (h .wai
 straight-flushing : {A : Type 0} (n : ℕ) → Straight ≡ Flushing n → A
 straight-flushing n e = let apart : _≡_ {A = ℕ} 0 1 = cc in absurd (omega arith)
 
--- ---- where its last command is due
+-- ---- what it has got by then
 
--- a flush is answered and nothing is unsaved
-last-means : (n : ℕ) (unsaved : Bool) (last : Due) → isFlush (cond (eqb n 0 || unsaved) Flush last) ≡ false → (eqb n 0 ≡ false) × (unsaved ≡ false)
-last-means n unsaved last f = on (eqb n 0) unsaved f
-  where
-    on : (b c : Bool) → isFlush (cond (b || c) Flush last) ≡ false → (b ≡ false) × (c ≡ false)
-    on true c f = absurd (true≢false f)
-    on false true f = absurd (true≢false f)
-    on false false f = (refl, refl)
-
--- so the flush's good answer is what it has got
+-- the last flush's good answer
 some-good : (n : ℕ) → eqb (heldAt255 n) 0 ≡ false → goods n ≡ Good ∷ []
 some-good zero e = absurd (true≢false e)
 some-good (suc n) e = refl

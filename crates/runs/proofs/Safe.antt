@@ -2,7 +2,7 @@
 -- makes all safe, a power-on clears it and leaves no write since, and every other call leaves the mark and each write as they were. And the last
 -- command of a flushing operation is due only with the mark clear.
 use mathlib.Core.Path.{_≡_, refl, sym, _∙_}
-use mathlib.Core.Bool.{Bool, true, false, and-false, or-true, true≢false, false≢true}
+use mathlib.Core.Bool.{Bool, true, false, and-false, true≢false, false≢true}
 use mathlib.Core.List.{List, [], _∷_}
 use mathlib.Core.Logic.{_↔_}
 use Prim.Native.Nat.{ℕ, zero, suc, _<_}
@@ -26,9 +26,8 @@ use Rattle.unit.specs.declared.Verdict.{Verdict}
 use Rattle.unit.specs.declared.Verdict.the-variants.{Clear, Given}
 use Rattle.unit.specs.declared.Unit.{Unit}
 use Rattle.bridge.specs.Cdb.{noFlush, stageFor}
-use Rattle.bridge.specs.Operations.{registersOf, lastOf, dueAt, dueFrom, isFlush, reportFailed, failed}
+use Rattle.bridge.specs.Operations.{registersOf, lastOf, dueFrom, isFlush, reportFailed, failed}
 use Rattle.bridge.specs.declared.Wanted.the-variants.{Wants}
-use Rattle.bridge.specs.declared.Due.{Due}
 use Rattle.bridge.specs.declared.Reply.{Reply}
 use Rattle.bridge.specs.declared.Reply.the-variants.{Good, Bad}
 use Rattle.bridge.specs.declared.Report.{Report}
@@ -40,7 +39,7 @@ use Rattle.runs.specs.Past.{pastOf, cdbOf, flushSent, heldAt255}
 use Rattle.runs.specs.Serial.{nothingWaits}
 use Rattle.runs.specs.Safe.{latestPoweredOn, answeredGood, latestFlushed, Written, SincePowerOn, Safe, AllSafe, SomeUnsafe, flushing, asksFlush, latestIsLast, NoByteLeftBehind}
 use Rattle.runs.proofs.Deeds.{Taken, Cases, deedAt, by-deed}
-use Rattle.runs.proofs.Known.{along, Noted, Known, is-flush, sent-due, known-kept, known-at-first, nothing-waits}
+use Rattle.runs.proofs.Known.{along, Noted, Known, is-flush, last-means, sent-due, known-kept, known-at-first, nothing-waits}
 
 -- ---- what one more call makes of the writes
 
@@ -126,17 +125,13 @@ flushing-begun Start without h = absurd (false≢true h)
 flushing-begun (GoTo c) true h = absurd (false≢true h)
 flushing-begun (GoTo c) false h = refl
 
-due-saved : (n : ℕ) (unsaved : Bool) (last : Due) → isFlush (dueAt (Flushing n) unsaved last) ≡ false → unsaved ≡ false
-due-saved n false last h = refl
-due-saved n true last h = absurd (true≢false (simp or-true at h))
-
 -- Where a flushing operation has another command due than a flush, the mark is clear.
 noted-saved : {cdb : List ℕ} {n : ℕ} {answers : List Reply} {q : Request} → Noted cdb n answers q → asksFlush cdb ≡ true
     → (unsaved : Bool) → isFlush (dueFrom unsaved q) ≡ false → unsaved ≡ false
 noted-saved {cdb} {n} {answers} {q} noted asks unsaved last =
     let begun = flushing-begun (q .target) (noFlush cdb) (rw (noted .wants) at asks) in
     let now = (rw begun at (noted .reached)) .0 in
-    due-saved (heldAt255 n) unsaved (lastOf (q .target)) (rw now at last)
+    last-means (heldAt255 n) unsaved (lastOf (q .target)) (rw now at last) .1
 
 -- ---- each call
 

@@ -4,5 +4,6 @@ pub mod Serial
 pub mod Safe
 pub mod FlushCount
 pub mod Reports
+pub mod Idle
 pub mod WrongSteps
 pub mod Afternoon

@@ -1,0 +1,36 @@
+-- The idle count starts again with each of these calls: each effect goes through the one restart.
+use mathlib.Core.Path.{_≡_, refl}
+use mathlib.Core.Bool.{true, false≢true}
+use Rattle.drive.specs.Drives.{used, poweredOn}
+use Rattle.epc.proofs.Effects.{either, idle-after}
+use Rattle.unit.specs.declared.Unit.{Unit}
+use Rattle.calls.specs.Calls.{outcome}
+use Rattle.runs.specs.Deeds.{Deed}
+use Rattle.runs.specs.Idle.{restartsIdle, IdleRestarts}
+use Rattle.runs.proofs.Deeds.{by-deed}
+
+abbrev Restarts : Deed → Unit → Type 0
+Restarts d v = restartsIdle d ≡ true → v .drive .idle .0 ≡ 0
+
+-- Every accepted call but a tick or a log page read sets the idle count to 0, and so does an abort.
+pub idle-restarts : IdleRestarts outcome
+unfolding used poweredOn
+idle-restarts u = by-deed Restarts u (record {
+  refused = λ c h. absurd (false≢true h);
+  aborted = λ q ten h. refl;
+  begun = λ host cdb t clear wants h. refl;
+  asked = λ host q clear waits h. refl;
+  flushed = λ host q taken f h. refl;
+  flush-failed = λ host q taken f h. either (λ (v : Unit). v .drive .idle .0 ≡ 0) (q .immed) _ _ refl refl;
+  last-succeeded = λ host reply q taken f g h. refl;
+  last-failed = λ host reply q taken f g h. either (λ (v : Unit). v .drive .idle .0 ≡ 0) (q .immed) _ _ refl refl;
+  epc = λ q clear h. idle-after q (u .drive);
+  ticks = λ h. absurd (false≢true h);
+  reads = λ host clear h. refl;
+  writes = λ host clear h. refl;
+  powers-on = λ h. refl;
+  resets-hard = λ h. refl;
+  resets-soft = λ h. refl;
+  tells = λ host buffer clear h. refl;
+  logs = λ buffer clear h. absurd (false≢true h);
+})
