@@ -15,11 +15,11 @@ use Rattle.runs.specs.Deeds.{Deed, refuses, deeds, doesA}
 use Rattle.runs.specs.Past.{pastOf}
 use Rattle.runs.specs.Serial.{inPlaceOf, serialAfter, serial, nothingWaits, resetsAtRest, compared, Demand3, gather, refusedIn, otherIn, begunIn, beginnerIn, enderIn, Serialises}
 use Rattle.runs.proofs.Deeds.{Cases, deedAt, by-deed, reset-call}
-use Rattle.runs.proofs.Known.{Known, known-kept, known-at-first, nothing-waits}
+use Rattle.runs.proofs.Known.{Known, known-kept, known-at-first}
 use Rattle.runs.proofs.RunsTo.{RunsTo, runs-nothing, runs-append, gather-append}
-use Rattle.runs.proofs.Whole.{Quiet}
 use Rattle.runs.proofs.Same.{Same, mark-at-rest, Stands, Follows, aborts-on, epc-on, ticks-on, reads-on, writes-on, powers-on, resets-hard, resets-soft, tells-on, logs-on, nothing}
 use Rattle.runs.proofs.Pending.{pending, Balance, balanced}
+use Rattle.runs.proofs.Slots.{nothing-waits, Quiet}
 use Rattle.runs.proofs.Over.{begins-on, asks-on, flushes-on, flush-fails-on, last-on}
 
 -- ---- one call

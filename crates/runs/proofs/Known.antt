@@ -1,17 +1,16 @@
 -- The past knows the record: of each waiting operation the CDB, the flushes answered and the answers, and of what is out whether it is a flush.
 -- Each call keeps that, case by case; a case that changes a slot is split by whether it is this host's.
 use mathlib.Core.Path.{_≡_, refl, sym, ap, _∙_}
-use mathlib.Core.Bool.{Bool, true, false, not, _||_, cond, true≢false, false≢true}
+use mathlib.Core.Bool.{Bool, true, false, not, _||_, cond, true≢false}
 use mathlib.Core.List.{List, [], _∷_, reverseAux}
 use Prim.Native.Nat.{ℕ, zero, suc, _+_, _<_}
 use native.Mathlib.Omega.{arith}
 use lib.Dec.{eqb, ltb}
 use lib.ListN.{length, set, replicate}
-use borrow.Author.Tests.{ltb-true, ltb-false, le-ltb, eqb-true, eqb-false, not-true, not-false}
-use Rattle.rows.specs.Rows.{everyAt}
-use Rattle.rows.proofs.Places.{and-left, and-right}
+use borrow.Author.Tests.{ltb-true, ltb-false, le-ltb, eqb-true, not-true, not-false}
+use Rattle.rows.proofs.Places.{and-left}
 use Rattle.epc.proofs.Effects.{either}
-use Rattle.unit.specs.Units.{emptySlot, slotOf, isWaiting, isOut, isOutFor, wellFormed, withSlot, rested}
+use Rattle.unit.specs.Units.{emptySlot, slotOf, isOut, wellFormed, withSlot, rested}
 use Rattle.unit.specs.Refusals.{lowest}
 use Rattle.unit.specs.Calls.{mediumRows}
 use Rattle.unit.specs.declared.Target.{Target}
@@ -38,12 +37,12 @@ use Rattle.bridge.specs.declared.Reply.the-variants.{Good, Bad}
 use Rattle.bridge.specs.declared.Report.{Report}
 use Rattle.calls.specs.Calls.{Call, tick, powerOn, hardReset, softReset, step, run, history}
 use Rattle.calls.proofs.Numbers.{clear-none}
-use Rattle.calls.proofs.Hosts.{own-slot, other-slot}
-use Rattle.calls.proofs.WellFormed.{unit-fine, well-formed-kept}
+use Rattle.calls.proofs.WellFormed.{well-formed-kept}
 use Rattle.calls.proofs.Progress.{last-no-flush}
 use Rattle.runs.specs.Deeds.{Deed, begins, sends, goesOn, ends, does, deeds}
 use Rattle.runs.specs.Past.{pastOf, cdbOf, flushSent, replies, flushesAnswered, heldAt255}
 use Rattle.runs.specs.Serial.{nothingWaits}
+use Rattle.runs.proofs.Slots.{Quiet, waiting-same, empty-waits, out-same, taken-out, none-out-for, inside, slot-after, none-waits, nothing-waits}
 use Rattle.runs.proofs.Deeds.{Taken, Cases, deedAt, by-deed}
 
 -- ---- a fact of the past and of the record, along a run
@@ -109,37 +108,6 @@ is-flush (EpcGoTo c) = refl
 
 -- ---- each case
 
-pub waiting-same : (p q : Request) → Waiting p ≡ Waiting q → p ≡ q
-waiting-same p q e = cc
-
-pub empty-waits : {A : Type 0} (q : Request) → Empty ≡ Waiting q → A
-empty-waits q e = let no : _≡_ {A = ℕ} 0 1 = cc in absurd (omega arith)
-
-out-same : (h k : ℕ) → OutFor h ≡ OutFor k → h ≡ k
-out-same h k e = cc
-
-pub taken-out : (u : Unit) (host : ℕ) → not (isOutFor host (u .out)) ≡ false → u .out ≡ OutFor host
-taken-out u host e = on (u .out) (not-false _ e)
-  where
-    on : (o : Out) → isOutFor host o ≡ true → o ≡ OutFor host
-    on NoneOut e = absurd (false≢true e)
-    on (OutFor h) e = ap OutFor (eqb-true h host e)
-
-none-out-for : {A : Type 0} (o : Out) (k : ℕ) → isOut o ≡ false → o ≡ OutFor k → A
-none-out-for o k none e = absurd (true≢false (sym (ap isOut e) ∙ none))
-
-pub inside : (u : Unit) (host : ℕ) → wellFormed u ≡ true → ltb 3 host ≡ false → host < length (u .slots)
-inside u host fine h = omega (arith, unit-fine u .0 fine .slots, ltb-false 3 host h)
-
--- After a slot is set, an operation that waits is the one set, if it is this host's, or another host's as before.
-pub slot-after : (slots : List HostSlot) (host k : ℕ) (s : Slot) → host < length slots
-    → slotOf (set slots host (record { slot = s })) k ≡ cond (eqb host k) s (slotOf slots k)
-slot-after slots host k s h = on (eqb host k) refl
-  where
-    on : (b : Bool) → eqb host k ≡ b → slotOf (set slots host (record { slot = s })) k ≡ cond b s (slotOf slots k)
-    on true e = rw (← eqb-true host k e) (own-slot slots host s h)
-    on false e = other-slot host k (λ same. eqb-false host k e (sym same)) slots s
-
 -- An operation that sends no flush has no flush due.
 pub straight-no-flush : (unsaved : Bool) (q : Request) → q .stage ≡ Straight → isFlush (dueFrom unsaved q) ≡ false
 straight-no-flush unsaved q e = rw e (last-no-flush (q .target))
@@ -190,15 +158,6 @@ flushed-noted cdb n answers unsaved q noted f = record {
   immediate = noted .immediate;
   reached = flush-reached (stageFor (q .target) (noFlush cdb)) n answers unsaved q (noted .reached) f;
 }
-
--- After a reset nothing waits.
-pub none-waits : (k : ℕ) → slotOf (replicate 4 emptySlot) k ≡ Empty
-none-waits k = all 4 k
-  where
-    all : (n k : ℕ) → slotOf (replicate n emptySlot) k ≡ Empty
-    all zero k = refl
-    all (suc n) zero = refl
-    all (suc n) (suc k) = all n k
 
 module _ (past : List Deed) (u : Unit) (known : Known past u) where
   abbrev ops : Operations past (u .slots)
@@ -305,21 +264,8 @@ known-kept past u c known =
     let stay = by-deed (Stay past u known) u (stays past u known) c in
     (well-formed-kept u c (known .0), stay .0, stay .1)
 
--- Where nothing waits every slot is empty, past the fourth too.
-pub nothing-waits : (u : Unit) → nothingWaits u ≡ true → (k : ℕ) → slotOf (u .slots) k ≡ Empty
-nothing-waits u = each 0 (u .slots)
-  where
-    empty : (s : Slot) → not (isWaiting s) ≡ true → s ≡ Empty
-    empty Empty h = refl
-    empty (Waiting q) h = absurd (false≢true h)
-
-    each : (at : ℕ) (slots : List HostSlot) → everyAt (λ i s. not (isWaiting (s .slot))) at slots ≡ true → (k : ℕ) → slotOf slots k ≡ Empty
-    each at [] h k = refl
-    each at (s ∷ slots) h zero = empty (s .slot) (and-left (not (isWaiting (s .slot))) _ h)
-    each at (s ∷ slots) h (suc k) = each (suc at) slots (and-right (not (isWaiting (s .slot))) _ h) k
-
 -- With nothing waiting there is nothing to know.
-pub known-at-first : (u : Unit) → wellFormed u ≡ true → ((k : ℕ) → slotOf (u .slots) k ≡ Empty) → Known [] u
+pub known-at-first : (u : Unit) → wellFormed u ≡ true → Quiet u → Known [] u
 known-at-first u fine none = (fine, λ k q w. empty-waits q (sym (none k) ∙ w), λ k q o w. empty-waits q (sym (none k) ∙ w))
 
 -- So over any run from there the past knows the record.

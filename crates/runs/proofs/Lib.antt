@@ -1,4 +1,5 @@
 pub mod Deeds
+pub mod Slots
 pub mod Known
 pub mod RunsTo
 pub mod Whole

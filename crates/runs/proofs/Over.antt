@@ -40,9 +40,10 @@ use Rattle.runs.specs.Deeds.{Deed, begins, sends, goesOn, ends}
 use Rattle.runs.specs.Past.{cdbOf, gets, replies, flushesAnswered, heldAt255}
 use Rattle.runs.specs.Serial.{whole}
 use Rattle.runs.proofs.Deeds.{Taken}
-use Rattle.runs.proofs.Known.{goods, Reached, NotedBy, Known, waiting-same, sent-due, inside, straight-no-flush, last-means}
+use Rattle.runs.proofs.Known.{goods, Reached, NotedBy, Known, sent-due, straight-no-flush, last-means}
 use Rattle.runs.proofs.RunsTo.{RunsTo}
-use Rattle.runs.proofs.Whole.{Quiet, quiet-out, Admitted, Ready, ready-begun, ready-flushed, flushed-due, whole-once, whole-twice}
+use Rattle.runs.proofs.Whole.{Admitted, Ready, ready-begun, ready-flushed, flushed-due, whole-once, whole-twice}
+use Rattle.runs.proofs.Slots.{waiting-same, inside, Quiet, quiet-out}
 use Rattle.runs.proofs.Same.{Helped, SameMark, Same, StandFor, Follows, Stands, left-fine, waits-on, mark-beside}
 
 -- ---- both ends

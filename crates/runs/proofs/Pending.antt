@@ -29,8 +29,8 @@ use Rattle.runs.specs.Deeds.{Deed, begins, goesOn, does, doesA}
 use Rattle.runs.specs.Past.{cdbOf}
 use Rattle.runs.specs.Serial.{begunIn}
 use Rattle.runs.proofs.Deeds.{Taken, Cases}
-use Rattle.runs.proofs.Known.{Known, inside, none-waits, slot-after}
-use Rattle.runs.proofs.Whole.{Quiet}
+use Rattle.runs.proofs.Known.{Known}
+use Rattle.runs.proofs.Slots.{inside, none-waits, slot-after, Quiet}
 use Rattle.runs.proofs.Same.{endedIn, powers-on, resets-hard, resets-soft}
 
 abbrev pub pendingIn : Slot → List ℕ → List (List ℕ)

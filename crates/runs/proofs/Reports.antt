@@ -51,8 +51,8 @@ use Rattle.calls.proofs.WellFormed.{unit-fine, well-formed-kept, run-well-forme
 use Rattle.calls.specs.Kinds.{isReset}
 use Rattle.runs.specs.Deeds.{Deed, begins, sends, goesOn, ends, does, aborts, refuses, beginning, another, deeds, doesA}
 use Rattle.runs.specs.Reports.{endsFor, beginsFor, endReports, stillOpen, fates, keepsHeld, WaitsAs, OneFate, OpenWaits, fails, EndReported, HeldTold}
+use Rattle.runs.proofs.Slots.{waiting-same, empty-waits, inside, slot-after, none-waits}
 use Rattle.runs.proofs.Deeds.{Taken, deedAt, by-deed}
-use Rattle.runs.proofs.Known.{waiting-same, empty-waits, inside, slot-after, none-waits}
 
 -- ---- what a call is to host k's operation
 

@@ -39,7 +39,8 @@ use Rattle.runs.specs.Past.{pastOf, cdbOf, flushSent, heldAt255}
 use Rattle.runs.specs.Serial.{nothingWaits}
 use Rattle.runs.specs.Safe.{latestPoweredOn, answeredGood, latestFlushed, Written, SincePowerOn, Safe, AllSafe, SomeUnsafe, flushing, asksFlush, latestIsLast, NoByteLeftBehind}
 use Rattle.runs.proofs.Deeds.{Taken, Cases, deedAt, by-deed}
-use Rattle.runs.proofs.Known.{along, Noted, Known, is-flush, last-means, sent-due, known-kept, known-at-first, nothing-waits}
+use Rattle.runs.proofs.Slots.{nothing-waits}
+use Rattle.runs.proofs.Known.{along, Noted, Known, is-flush, last-means, sent-due, known-kept, known-at-first}
 
 -- ---- what one more call makes of the writes
 

@@ -40,9 +40,8 @@ use Rattle.calls.specs.Kinds.{isReset}
 use Rattle.runs.specs.Deeds.{Deed, begins, sends, goesOn, ends, does, aborts, refuses, another, deedOf, doesA}
 use Rattle.runs.specs.Past.{cdbOf}
 use Rattle.runs.specs.Serial.{inPlaceOf, gather, refusedIn, otherIn, begunIn, beginnerIn, enderIn}
-use Rattle.runs.proofs.Known.{empty-waits, none-waits}
+use Rattle.runs.proofs.Slots.{empty-waits, none-waits, Quiet, quiet-out}
 use Rattle.runs.proofs.RunsTo.{RunsTo, runs-nothing, runs-on}
-use Rattle.runs.proofs.Whole.{Quiet, quiet-out}
 
 -- ---- the two records
 

@@ -1,20 +1,19 @@
 -- An operation run whole on a record with nothing waiting: it is accepted, each question gets its command and each answer is taken, so what it leaves
 -- is what the last answer leaves. It has one answer, or a good flush's and one more.
 use mathlib.Core.Path.{_≡_, refl, sym, ap, _∙_}
-use mathlib.Core.Bool.{Bool, true, false, cond, false≢true}
+use mathlib.Core.Bool.{Bool, true, false, cond}
 use mathlib.Core.List.{List, [], _∷_}
 use Prim.Native.Nat.{ℕ, _<_}
 use lib.Dec.{eqb, ltb}
 use lib.ListN.{length, set}
 use borrow.Author.Tests.{eqb-false}
-use Rattle.unit.specs.Units.{emptySlot, slotOf, isWaiting, outWellFormed, wellFormed, withSlot, rested}
+use Rattle.unit.specs.Units.{emptySlot, slotOf, wellFormed, withSlot, rested}
 use Rattle.unit.specs.Refusals.{lowest}
 use Rattle.unit.specs.declared.Stage.the-variants.{Flushing}
 use Rattle.unit.specs.declared.Request.{Request}
 use Rattle.unit.specs.declared.Slot.the-variants.{Empty, Waiting}
 use Rattle.unit.specs.declared.HostSlot.{HostSlot}
-use Rattle.unit.specs.declared.Out.{Out}
-use Rattle.unit.specs.declared.Out.the-variants.{NoneOut, OutFor}
+use Rattle.unit.specs.declared.Out.the-variants.{NoneOut}
 use Rattle.unit.specs.declared.Verdict.the-variants.{Clear}
 use Rattle.unit.specs.declared.Unit.{Unit}
 use Rattle.bridge.specs.Cdb.{immed, wanted, requestFor}
@@ -31,26 +30,13 @@ use Rattle.bridge.specs.declared.Replied.{Replied}
 use Rattle.calls.specs.Calls.{Call, startStop, next, answer, progressed, step}
 use Rattle.calls.proofs.Numbers.{clear-none, own-told, start-accepted, next-accepted, answer-accepted}
 use Rattle.calls.proofs.Hosts.{own-slot, other-slot}
-use Rattle.calls.proofs.WellFormed.{unit-fine, well-formed-kept}
+use Rattle.calls.proofs.WellFormed.{well-formed-kept}
 use Rattle.calls.proofs.Progress.{next-clear, answer-clear, last-no-flush, counted-due}
 use Rattle.runs.specs.Deeds.{Deed, begins, sends, goesOn, ends, answering}
 use Rattle.runs.specs.Serial.{whole}
 use Rattle.runs.proofs.Deeds.{deedAt}
+use Rattle.runs.proofs.Slots.{inside, slot-after, Quiet, quiet-out}
 use Rattle.runs.proofs.RunsTo.{RunsTo, runs-nothing, runs-on}
-use Rattle.runs.proofs.Known.{inside, slot-after}
-
--- ---- a record with nothing waiting
-
-abbrev pub Quiet : Unit → Type 0
-Quiet u = (k : ℕ) → slotOf (u .slots) k ≡ Empty
-
--- What is out is a waiting operation's, so here nothing is.
-pub quiet-out : (v : Unit) → wellFormed v ≡ true → Quiet v → v .out ≡ NoneOut
-quiet-out v fine quiet = on (v .out) (unit-fine v .0 fine .out)
-  where
-    on : (o : Out) → outWellFormed (v .slots) o ≡ true → o ≡ NoneOut
-    on NoneOut h = refl
-    on (OutFor k) h = absurd (false≢true (sym (ap isWaiting (quiet k)) ∙ h))
 
 -- ---- acceptance
 
