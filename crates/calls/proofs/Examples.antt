@@ -16,7 +16,7 @@ use Rattle.bridge.specs.Cdb.{wanted, isListed}
 use Rattle.bridge.specs.Operations.{answeredFor}
 use Rattle.bridge.specs.Bridge.{startStopOutcome, nextOutcome, answerOutcome}
 use Rattle.unit.specs.declared.Unit.{Unit}
-use Rattle.calls.specs.Calls.{Call, Outcome, outcome}
+use Rattle.calls.specs.Calls.{Outcome, outcome, StepFunction}
 use Rattle.calls.specs.Examples.{*a, *b, *c, *d, *e, *f, *g19, *g20, *g49, *g50, *h, *i1, *i2, *j1, *j2, *j3, *k, *l, *m, untouched, quiet, Examples}
 
 -- The examples marked * in document 01, all of them, hold of `outcome`.
@@ -43,7 +43,7 @@ examples *l = refl
 examples *m = refl
 
 -- The table can fail: a step that always says Done and changes nothing is refuted by example a, which asks for a timer of 300.
-abbrev pub nothingDone : Unit → Call → Outcome
+abbrev pub nothingDone : StepFunction
 nothingDone u c = untouched u
 
 pub nothing-done-fails : Examples nothingDone → ⊥

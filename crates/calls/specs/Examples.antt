@@ -23,7 +23,7 @@ use Rattle.bridge.specs.Operations.{registers}
 use Rattle.bridge.specs.declared.Acceptance.the-variants.{GoodDue, NotAccepted}
 use Rattle.bridge.specs.declared.Next.the-variants.{Send}
 use Rattle.bridge.specs.declared.Reply.the-variants.{Good}
-use Rattle.calls.specs.Calls.{Call, setFeatures, tick, write, startStop, next, answer, requestSense, plain, accepted, sent, Outcome}
+use Rattle.calls.specs.Calls.{Call, setFeatures, tick, write, startStop, next, answer, requestSense, plain, accepted, sent, Outcome, StepFunction}
 
 -- ---- what an example is
 
@@ -34,16 +34,16 @@ pub record Example : Type 1 where
   pub shows : Outcome → Type 0
 
 -- The outcome of the last call, by a given step function: each call is made on the record that the one before it left.
-abbrev pub lastFrom : (Unit → Call → Outcome) → Outcome → List Call → Outcome
-lastFrom step o [] = o
-lastFrom step o (c ∷ cs) = lastFrom step (step (o .unit) c) cs
+abbrev pub lastFrom : StepFunction → Outcome → List Call → Outcome
+lastFrom by o [] = o
+lastFrom by o (c ∷ cs) = lastFrom by (by (o .unit) c) cs
 
 -- Before the first call nothing is said but that all is well.
 abbrev pub untouched : Unit → Outcome
 untouched u = record { said = plain Done; unit = u; buffer = [] }
 
-abbrev pub Holds : (Unit → Call → Outcome) → Example → Type 0
-Holds step x = x .shows (lastFrom step (untouched (x .start)) (x .calls))
+abbrev pub Holds : StepFunction → Example → Type 0
+Holds by x = x .shows (lastFrom by (untouched (x .start)) (x .calls))
 
 -- ---- the units that they start from
 
@@ -216,5 +216,5 @@ table *m = record {
 -- ---- the statement
 
 -- Every marked example holds of the step function.
-abbrev pub Examples : (Unit → Call → Outcome) → Type 0
-Examples step = (x : Marked) → Holds step (table x)
+abbrev pub Examples : StepFunction → Type 0
+Examples by = (x : Marked) → Holds by (table x)

@@ -56,12 +56,12 @@ unfolding computed
 ticks-apart = (refl, refl)
 
 -- Two more ticks, with no command out while host 0's operation waits, take the real unit there too.
-pub ticks-count : run noon (take 17 callsMade) .drive .power ≡ Low IdleA Timer
+pub ticks-count : run noon (take 22 callsMade) .drive .power ≡ Low IdleA Timer
 unfolding computed
 ticks-count = refl
 
 -- Host 1's bad flush leaves the marks as before: in the real run host 0's flush was good before it, in the serial run it is still to come.
-pub marks-apart : (run noon (take 15 callsMade) .unsaved ≡ false) × (run noon (take 8 serially) .unsaved ≡ true)
+pub marks-apart : (run noon (take 20 callsMade) .unsaved ≡ false) × (run noon (take 11 serially) .unsaved ≡ true)
 unfolding computed
 marks-apart = (refl, refl)
 

@@ -51,7 +51,7 @@ ReportCounts past (refuses c) = Prim.Unit {0}
 module _ (past : List Deed) (u : Unit) (known : Known past u) where
   -- the flushes answered once the host's command that is out is answered too
   abbrev answeredNow : ℕ → ℕ
-  answeredNow host = cond (eqb host host && flushSent past) (suc (flushesAnswered host past)) (flushesAnswered host past)
+  answeredNow host = cond (eqb host host && flushSent host past) (suc (flushesAnswered host past)) (flushesAnswered host past)
 
   flush-counts : (host : ℕ) (q : Request) → Taken u host q → isFlush (dueFrom (u .unsaved) q) ≡ true
       → oneMore (flushesOf (q .stage)) ≡ heldAt255 (answeredNow host)
@@ -85,16 +85,13 @@ module _ (past : List Deed) (u : Unit) (known : Known past u) where
     logs = λ buffer clear. tt;
   }
 
--- ---- over any run from a well-formed record with nothing waiting
+-- ---- over any run
 
-module _ (u : Unit) (fine : wellFormed u ≡ true) (none : nothingWaits u ≡ true) (cs : List Call) where
-  -- The progress of a waiting operation is the number of flushes answered for it, held at 255.
-  pub slot-counts : (host : ℕ) (q : Request) → slotOf (run u cs .slots) host ≡ Waiting q
-      → flushesOf (q .stage) ≡ heldAt255 (flushesAnswered host (pastOf u cs))
-  slot-counts = waiting-counts (pastOf u cs) (run u cs) (known-after u fine none cs)
-
--- So is the count in its end report.
+-- A waiting operation's progress and an end report's count are the number of flushes answered, held at 255.
 pub flush-count : FlushCount outcome
-flush-count u cs host reply report fine none e =
-    let known = known-after u fine none cs in
-    rw e at (by-deed (λ d v. ReportCounts (pastOf u cs) d) (run u cs) (reports (pastOf u cs) (run u cs) known) (answer host reply))
+flush-count u cs host fine none =
+    let known = known-after u fine none cs in (
+      waiting-counts (pastOf u cs) (run u cs) known host,
+      λ reply report e.
+          rw e at (by-deed (λ d v. ReportCounts (pastOf u cs) d) (run u cs) (reports (pastOf u cs) (run u cs) known) (answer host reply)),
+    )

@@ -7,7 +7,7 @@ use Prim.Native.Nat.{ℕ, zero, suc, _+_, _<_}
 use native.Mathlib.Omega.{arith}
 use lib.Dec.{eqb, ltb}
 use lib.ListN.{length, set, replicate}
-use borrow.Author.Tests.{ltb-true, ltb-false, le-ltb, eqb-true, not-true, not-false}
+use borrow.Author.Tests.{ltb-true, ltb-false, le-ltb, eq-eqb, eqb-true, not-true, not-false}
 use Rattle.rows.proofs.Places.{and-left}
 use Rattle.epc.proofs.Effects.{either}
 use Rattle.unit.specs.Units.{emptySlot, slotOf, isOut, wellFormed, withSlot, rested}
@@ -82,7 +82,7 @@ Operations past slots = (host : ℕ) (q : Request) → slotOf slots host ≡ Wai
 -- The command that is out is the one sent last.
 abbrev pub CommandOut : List Deed → List HostSlot → Bool → Out → Type 0
 CommandOut past slots unsaved out = (host : ℕ) (q : Request) → out ≡ OutFor host → slotOf slots host ≡ Waiting q
-    → flushSent past ≡ isFlush (dueFrom unsaved q)
+    → flushSent host past ≡ isFlush (dueFrom unsaved q)
 
 abbrev pub Known : List Deed → Unit → Type 0
 Known past u = (wellFormed u ≡ true) × Operations past (u .slots) × CommandOut past (u .slots) (u .unsaved) (u .out)
@@ -186,7 +186,7 @@ module _ (past : List Deed) (u : Unit) (known : Known past u) where
   asked-stays host q waits = (
     ops,
     λ k p o w.
-        is-flush (dueFrom (u .unsaved) q)
+        rw (eq-eqb host k (out-same host k o)) (is-flush (dueFrom (u .unsaved) q))
         ∙ ap (λ (r : Request). isFlush (dueFrom (u .unsaved) r)) (waiting-same q p (sym waits ∙ ap (slotOf (u .slots)) (out-same host k o) ∙ w)),
   )
 
@@ -202,7 +202,7 @@ module _ (past : List Deed) (u : Unit) (known : Known past u) where
   )
 
   -- An answer that is taken is to the command that was due.
-  pub sent-due : (host : ℕ) (q : Request) → Taken u host q → flushSent past ≡ isFlush (dueFrom (u .unsaved) q)
+  pub sent-due : (host : ℕ) (q : Request) → Taken u host q → flushSent host past ≡ isFlush (dueFrom (u .unsaved) q)
   sent-due host q taken = out host q (taken-out u host (clear-none (answerRows u host) (taken .clear) 2)) (taken .waiting)
 
   flushed-stays : (host : ℕ) (q : Request) → Taken u host q → isFlush (dueFrom (u .unsaved) q) ≡ true

@@ -7,6 +7,7 @@ pub mod Same
 pub mod Over
 pub mod Pending
 pub mod Demand3
+pub mod Since
 pub mod Safe
 pub mod FlushCount
 pub mod Reports

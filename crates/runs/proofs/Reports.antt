@@ -50,7 +50,7 @@ use Rattle.calls.proofs.Hosts.{own-slot}
 use Rattle.calls.proofs.WellFormed.{unit-fine, well-formed-kept, run-well-formed}
 use Rattle.calls.specs.Kinds.{isReset}
 use Rattle.runs.specs.Deeds.{Deed, begins, sends, goesOn, ends, does, aborts, refuses, beginning, another, deeds, doesA}
-use Rattle.runs.specs.Reports.{endsFor, beginsFor, endReports, stillOpen, fates, keepsHeld, WaitsAs, OneFate, OpenWaits, fails, EndReported, HeldTold}
+use Rattle.runs.specs.Reports.{endsFor, beginsFor, endReports, stillOpen, fates, keepsHeld, WaitsAs, OneFate, fails, EndReported, HeldTold, FailureTold}
 use Rattle.runs.proofs.Slots.{waiting-same, empty-waits, inside, slot-after, none-waits}
 use Rattle.runs.proofs.Deeds.{Taken, deedAt, by-deed}
 
@@ -225,12 +225,10 @@ module _ (u : Unit) (host : ℕ) (cdb : List ℕ) (fine : wellFormed u ≡ true)
 -- Each accepted START STOP UNIT has exactly one end report, or was taken by a reset, or still waits at the end.
 pub one-fate : OneFate outcome
 one-fate u host cdb cs fine accepts =
-    waiting-fate host cdb (step u (startStop host cdb)) cs (well-formed-kept u (startStop host cdb) fine) (begun-waits u host cdb fine accepts)
-
--- What is still open waits, with the CDB's target and IMMED.
-pub open-waits : OpenWaits outcome
-open-waits u host cdb cs fine accepts =
-    open-waiting host cdb (step u (startStop host cdb)) cs (well-formed-kept u (startStop host cdb) fine) (begun-waits u host cdb fine accepts)
+    let v = step u (startStop host cdb) in
+    let fine-then = well-formed-kept u (startStop host cdb) fine in
+    let waits = begun-waits u host cdb fine accepts in
+    (waiting-fate host cdb v cs fine-then waits, open-waiting host cdb v cs fine-then waits)
 
 -- ---- what an end report tells
 
@@ -343,7 +341,7 @@ module _ (u : Unit) (fine : wellFormed u ≡ true) where
 pub end-reported : EndReported outcome
 end-reported u host cdb cs reply report fine accepts unended ends-here =
     let v = step u (startStop host cdb) in
-    let waits = open-waits u host cdb cs fine accepts unended in
+    let waits = one-fate u host cdb cs fine accepts .1 unended in
     let over = closes (run v cs) (run-well-formed v cs (well-formed-kept u (startStop host cdb) fine)) host reply report ends-here in
     let same = waiting-same (waits .0) (over .request) (sym (waits .1) ∙ over .waiting) in
     let wants : wanted cdb ≡ Wants (over .request .target) = waits .2 ∙ ap (λ (q : Request). Wants (q .target)) same in
@@ -431,7 +429,7 @@ sense-told w host buffer f fine holds e =
       ap (λ (v : Unit). heldOf (v .held) host) (did .0) ∙ own-held (w .held) host Nothing below,
     )
 
--- A failure with IMMED is what the host's next accepted REQUEST SENSE gives, unless a newer failure or a reset came between.
+-- A sense without a status is what the host's next accepted REQUEST SENSE gives.
 pub held-told : HeldTold outcome
 held-told u host reply report s cs buffer fine ends-here none sense keeps accepts =
     let v = step u (answer host reply) in
@@ -439,3 +437,11 @@ held-told u host reply report s cs buffer fine ends-here none sense keeps accept
     let failure = closes u fine host reply report ends-here .held s none sense in
     let told = sense-told (run v cs) host buffer (failure .0) fine-then (run-kept host v cs 0 keeps ∙ failure .1) accepts in
     (told .0 ∙ ap (senseBytes true) (failure .2), told .1)
+
+-- A failure with IMMED is what the host's next accepted REQUEST SENSE gives, unless a newer failure or a reset came between.
+pub failure-told : FailureTold outcome
+failure-told u host cdb cs reply report later buffer fine accepts immediate bad unended over keeps told =
+    let says = end-reported u host cdb cs reply report fine accepts unended over in
+    let v = step u (startStop host cdb) in
+    held-told (run v cs) host reply report (failureSense CommandSequence) later buffer
+    (run-well-formed v cs (well-formed-kept u (startStop host cdb) fine)) over (says .status ∙ rw immediate) (says .sense ∙ rw bad) keeps told .0

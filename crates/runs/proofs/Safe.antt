@@ -2,19 +2,21 @@
 -- makes all safe, a power-on clears it and leaves no write since, and every other call leaves the mark and each write as they were. And the last
 -- command of a flushing operation is due only with the mark clear.
 use mathlib.Core.Path.{_≡_, refl, sym, _∙_}
-use mathlib.Core.Bool.{Bool, true, false, and-false, true≢false, false≢true}
+use mathlib.Core.Bool.{Bool, true, false, _||_, cond, and-false, or-false, or-true, true≢false, false≢true}
 use mathlib.Core.List.{List, [], _∷_}
 use mathlib.Core.Logic.{_↔_}
 use Prim.Native.Nat.{ℕ, zero, suc, _<_}
 use native.Mathlib.Omega.{arith}
 use lib.Dec.{eqb}
-use lib.ListN.{drop}
+use lib.ListN.{take, drop}
 use borrow.Author.Tests.{not-true}
 use Rattle.rows.proofs.Places.{and-left, and-right}
 use Rattle.drive.specs.declared.Made.{Made}
 use Rattle.epc.proofs.Effects.{either}
 use Rattle.unit.specs.Units.{slotOf, isOut, wellFormed}
 use Rattle.unit.specs.Refusals.{numberOf, lowest, settled}
+use Rattle.bridge.specs.Bridge.{answerRows}
+use Rattle.calls.proofs.Numbers.{clear-none}
 use Rattle.unit.specs.Calls.{notWellFormed, madeUnit, blank, manufactureOutcome}
 use Rattle.unit.specs.declared.Target.{Target}
 use Rattle.unit.specs.declared.Target.the-variants.{Stop, Start, GoTo}
@@ -37,10 +39,41 @@ use Rattle.calls.specs.Kinds.{isPowerOn, isWrite}
 use Rattle.runs.specs.Deeds.{Deed, begins, sends, goesOn, ends, does, aborts, refuses, doesA}
 use Rattle.runs.specs.Past.{pastOf, cdbOf, flushSent, heldAt255}
 use Rattle.runs.specs.Serial.{nothingWaits}
-use Rattle.runs.specs.Safe.{latestPoweredOn, answeredGood, latestFlushed, Written, SincePowerOn, Safe, AllSafe, SomeUnsafe, flushing, asksFlush, latestIsLast, NoByteLeftBehind}
+use Rattle.runs.specs.Safe.{latestPoweredOn, latestFlushed, Written, SincePowerOn, Safe, AllSafe, SomeUnsafe, flushing, asksFlush, lastGoesOut, lastAnsweredGood, NoByteLeftBehind, MarkTells}
 use Rattle.runs.proofs.Deeds.{Taken, Cases, deedAt, by-deed}
-use Rattle.runs.proofs.Slots.{nothing-waits}
+use Rattle.runs.proofs.Slots.{taken-out, nothing-waits}
+use Rattle.runs.proofs.Since.{SentSince, SinceAfter, sinces}
 use Rattle.runs.proofs.Known.{along, Noted, Known, is-flush, last-means, sent-due, known-kept, known-at-first}
+
+-- ---- the command sent last
+
+either-way : (b x y z : Bool) → (y ≡ true → z ≡ true) → cond b x y ≡ true → cond b x z ≡ true
+either-way true x y z f h = h
+either-way false x y z f h = f h
+
+-- Sent among the latest calls, it is the one sent last.
+sent-among : (k n : ℕ) (past : List Deed) → flushSent k (take n past) ≡ true → flushSent k past ≡ true
+sent-among k zero past h = absurd (false≢true h)
+sent-among k (suc n) [] h = h
+sent-among k (suc n) (begins host cdb ∷ past) h = sent-among k n past h
+sent-among k (suc n) (sends host q ∷ past) h = either-way (eqb host k) _ _ _ (sent-among k n past) h
+sent-among k (suc n) (goesOn host reply ∷ past) h = sent-among k n past h
+sent-among k (suc n) (ends host reply report ∷ past) h = sent-among k n past h
+sent-among k (suc n) (does c ∷ past) h = sent-among k n past h
+sent-among k (suc n) (aborts c ∷ past) h = sent-among k n past h
+sent-among k (suc n) (refuses c ∷ past) h = sent-among k n past h
+
+-- So an answer to a flush sent among the latest calls is an answer to a flush.
+flushed-among : (n : ℕ) (d : Deed) (past : List Deed) → latestFlushed (d ∷ take n past) ≡ true → latestFlushed (d ∷ past) ≡ true
+flushed-among n (begins host cdb) past h = h
+flushed-among n (sends host q) past h = h
+flushed-among n (goesOn host reply) past h =
+    let sent = flushSent host (take n past) in rw (sent-among host n past (and-left sent _ h)) (and-right sent _ h)
+flushed-among n (ends host reply report) past h =
+    let sent = flushSent host (take n past) in rw (sent-among host n past (and-left sent _ h)) (and-right sent _ h)
+flushed-among n (does c) past h = h
+flushed-among n (aborts c) past h = h
+flushed-among n (refuses c) past h = h
 
 -- ---- what one more call makes of the writes
 
@@ -58,9 +91,9 @@ module _ (d : Deed) (past : List Deed) where
   all-later no-write all =
       all-before no-write (λ i written since. safe-later i (all i written (λ j before. since (suc j) (omega arith))))
 
-  -- A good flush makes every write safe.
-  all-flushed : doesA isWrite d ≡ false → latestFlushed (d ∷ past) ≡ true → AllSafe (d ∷ past)
-  all-flushed no-write flushed = all-before no-write (λ i written since. (0, omega arith, flushed))
+  -- A good flush that was sent after every write makes every write safe.
+  all-flushed : doesA isWrite d ≡ false → ((i : ℕ) → Written past i → latestFlushed (d ∷ take i past) ≡ true) → AllSafe (d ∷ past)
+  all-flushed no-write flushed = all-before no-write (λ i written since. (0, omega arith, flushed i written))
 
   -- No write came since a power-on just now.
   all-powered : doesA isWrite d ≡ false → doesA isPowerOn d ≡ true → AllSafe (d ∷ past)
@@ -81,7 +114,7 @@ module _ (d : Deed) (past : List Deed) where
       since (suc j) before = some .since-power-on j (omega arith)
 
       not-safe : Safe (d ∷ past) (suc (some .ago)) → ⊥
-      not-safe (zero, before, flushed) = true≢false (sym flushed ∙ no-flush)
+      not-safe (zero, before, flushed) = true≢false (sym (flushed-among (some .ago) d past flushed) ∙ no-flush)
       not-safe (suc j, before, flushed) = some .not-safe (j, omega arith, flushed)
 
   -- A write just accepted is not safe.
@@ -136,28 +169,33 @@ noted-saved {cdb} {n} {answers} {q} noted asks unsaved last =
 
 -- ---- each call
 
+-- The latest call hands out a flushing operation's last command, or is the good answer to it.
+abbrev latestIsLast : List Deed → Bool
+latestIsLast past = lastGoesOut past || lastAnsweredGood past
+
 -- What is kept along a run: what the mark says of the past, and that it is clear when the last command of a flushing operation was handed out or
 -- answered just now.
 abbrev Says : List Deed → Bool → Type 0
 Says past mark = Marked past mark × (latestIsLast past ≡ true → mark ≡ false)
 
-module _ (past : List Deed) (u : Unit) (known : Known past u) (marked : Marked past (u .unsaved)) where
+module _ (past : List Deed) (u : Unit) (known : Known past u) (marked : Marked past (u .unsaved)) (since : SentSince past (u .out)) where
   abbrev After : Deed → Unit → Type 0
   After d v = Says (d ∷ past) (v .unsaved)
 
   -- A call that bears on no write: it is no write, no power-on, no good answer and no last command.
-  quiet : (d : Deed) → doesA isWrite d ≡ false → doesA isPowerOn d ≡ false → answeredGood d ≡ false → latestIsLast (d ∷ past) ≡ false → After d u
+  quiet : (d : Deed) → doesA isWrite d ≡ false → doesA isPowerOn d ≡ false → latestFlushed (d ∷ past) ≡ false → latestIsLast (d ∷ past) ≡ false → After d u
   quiet d no-write no-power no-answer no-last = (
-    marked-later d past (u .unsaved) no-write no-power (rw no-answer (and-false (flushSent past))) marked,
+    marked-later d past (u .unsaved) no-write no-power no-answer marked,
     λ last. absurd (true≢false (sym last ∙ no-last)),
   )
 
   asked-says : (host : ℕ) (q : Request) → slotOf (u .slots) host ≡ Waiting q → After (sends host (registersOf (dueFrom (u .unsaved) q))) u
   asked-says host q waits = (
-    marked-later _ past (u .unsaved) refl refl (and-false (flushSent past)) marked,
+    marked-later _ past (u .unsaved) refl refl refl marked,
     λ last.
-        noted-saved (known .1 host q waits) (and-left asks _ last) (u .unsaved)
-        (sym (is-flush (dueFrom (u .unsaved) q)) ∙ not-true _ (and-right asks _ last)),
+        let out = sym (or-false _) ∙ last in
+        noted-saved (known .1 host q waits) (and-left asks _ out) (u .unsaved)
+        (sym (is-flush (dueFrom (u .unsaved) q)) ∙ not-true _ (and-right asks _ out)),
   )
     where
       asks : Bool
@@ -165,11 +203,12 @@ module _ (past : List Deed) (u : Unit) (known : Known past u) (marked : Marked p
 
   flushed-says : (host : ℕ) (q : Request) → Taken u host q → isFlush (dueFrom (u .unsaved) q) ≡ true → Says (goesOn host Good ∷ past) false
   flushed-says host q taken f =
-      (all-flushed (goesOn host Good) past refl (rw (sent-due past u known host q taken, f)), λ last. refl)
+      let out = taken-out u host (clear-none (answerRows u host) (taken .clear) 2) in
+      (all-flushed (goesOn host Good) past refl (λ i written. rw (since host out i written, sent-due past u known host q taken, f)), λ last. refl)
 
   -- A bad flush.
   bad-says : (host : ℕ) (report : Report) → After (ends host Bad report) u
-  bad-says host report = quiet (ends host Bad report) refl refl refl (and-false (asksFlush (cdbOf host past)))
+  bad-says host report = quiet (ends host Bad report) refl refl (and-false (flushSent host past)) (and-false (asksFlush (cdbOf host past)))
 
   -- The answer to the last command, good or bad: it is no answer to a flush.
   last-says : (host : ℕ) (reply : Reply) (report : Report) (q : Request) → Taken u host q → isFlush (dueFrom (u .unsaved) q) ≡ false
@@ -208,59 +247,63 @@ module _ (past : List Deed) (u : Unit) (known : Known past u) (marked : Marked p
 -- ---- over any run from a well-formed record with nothing waiting and the mark clear
 
 abbrev Told : List Deed → Unit → Type 0
-Told past u = Known past u × Says past (u .unsaved)
+Told past u = Known past u × Says past (u .unsaved) × SentSince past (u .out)
 
 told-kept : (past : List Deed) (u : Unit) (c : Call) → Told past u → Told (deedAt u c ∷ past) (step u c)
-told-kept past u c (known, (marked, last)) =
-    (known-kept past u c known, by-deed (After past u known marked) u (says past u known marked) c)
+told-kept past u c (known, (marked, last), since) = (
+  known-kept past u c known,
+  by-deed (After past u known marked since) u (says past u known marked since) c,
+  by-deed (SinceAfter past u since) u (sinces past u since) c,
+)
 
-abbrev pub AtRest : Unit → Type 0
-AtRest u = (wellFormed u ≡ true) × (nothingWaits u ≡ true) × (u .unsaved ≡ false)
+abbrev pub Saved : Unit → Type 0
+Saved u = (wellFormed u ≡ true) × (nothingWaits u ≡ true) × (u .unsaved ≡ false)
 
 -- Nothing is written yet.
-told-at-first : (u : Unit) → AtRest u → Told [] u
-told-at-first u (fine, none, saved) = (known-at-first u fine (nothing-waits u none), rw saved (all, λ last. refl))
+told-at-first : (u : Unit) → Saved u → Told [] u
+told-at-first u (fine, none, saved) = (known-at-first u fine (nothing-waits u none), rw saved (all, λ last. refl), first)
   where
+    first : SentSince [] (u .out)
+    first k is-out zero written = absurd (false≢true written)
+    first k is-out (suc i) written = absurd (false≢true written)
+
     all : AllSafe []
     all zero written since = absurd (false≢true written)
     all (suc i) written since = absurd (false≢true written)
 
-module _ (u : Unit) (rest : AtRest u) (cs : List Call) where
+module _ (u : Unit) (rest : Saved u) (cs : List Call) where
   told : Told (pastOf u cs) (run u cs)
   told = along Told told-kept [] u cs (told-at-first u rest)
 
-  -- The mark is set exactly when some write accepted since the last power-on is not safe.
-  pub unsaved-exactly-from : (run u cs .unsaved ≡ true) ↔ SomeUnsafe (pastOf u cs)
-  unsaved-exactly-from = unsaved-told (pastOf u cs) (run u cs .unsaved) (told .1 .0)
+  -- The mark is set exactly when some write accepted since the last power-on is not safe, and clear exactly when every one is.
+  pub marked-exactly : ((run u cs .unsaved ≡ true) ↔ SomeUnsafe (pastOf u cs)) × ((run u cs .unsaved ≡ false) ↔ AllSafe (pastOf u cs))
+  marked-exactly = (
+    unsaved-told (pastOf u cs) (run u cs .unsaved) (told .1 .0),
+    saved-told (pastOf u cs) (run u cs .unsaved) (told .1 .0),
+  )
 
-  -- It is clear exactly when every one is.
-  pub saved-exactly-from : (run u cs .unsaved ≡ false) ↔ AllSafe (pastOf u cs)
-  saved-exactly-from = saved-told (pastOf u cs) (run u cs .unsaved) (told .1 .0)
+  last-all-safe : latestIsLast (pastOf u cs) ≡ true → AllSafe (pastOf u cs)
+  last-all-safe last = marked-exactly .1 .0 (told .1 .1 last)
 
   -- Every one is when a flushing operation's last command goes out, and when it is answered good.
-  pub last-all-safe : latestIsLast (pastOf u cs) ≡ true → AllSafe (pastOf u cs)
-  last-all-safe last = saved-exactly-from .0 (told .1 .1 last)
+  pub none-left : (lastGoesOut (pastOf u cs) ≡ true → AllSafe (pastOf u cs)) × (lastAnsweredGood (pastOf u cs) ≡ true → AllSafe (pastOf u cs))
+  none-left = (λ last. last-all-safe (rw last), λ last. last-all-safe (rw last (or-true (lastGoesOut (pastOf u cs)))))
 
 -- ---- from manufacture on
 
--- A unit is made at rest, whether it is the one asked for or the blank one.
-pub made-at-rest : (ms : List Made) → AtRest (manufactureOutcome ms .unit)
+-- A unit is made so, whether it is the one asked for or the blank one.
+pub made-saved : (ms : List Made) → Saved (manufactureOutcome ms .unit)
 unfolding manufactureOutcome
-made-at-rest ms = let rest = on (lowest (notWellFormed (madeUnit ms) ∷ [])) in (manufacture-well-formed ms, rest .0, rest .1)
+made-saved ms = let rest = on (lowest (notWellFormed (madeUnit ms) ∷ [])) in (manufacture-well-formed ms, rest .0, rest .1)
   where
     on : (v : Verdict) → let u = settled blank (madeUnit ms) v .unit in (nothingWaits u ≡ true) × (u .unsaved ≡ false)
     on Clear = (refl, refl)
     on (Given r) = either (λ (u : Unit). (nothingWaits u ≡ true) × (u .unsaved ≡ false)) (eqb (numberOf r) 10) _ _ (refl, refl) (refl, refl)
 
--- The unsaved mark is set exactly when some write accepted since the last power-on is not safe, and clear exactly when every one is.
-pub unsaved-exactly : (ms : List Made) (cs : List Call) → let u = manufactureOutcome ms .unit in
-    (run u cs .unsaved ≡ true) ↔ SomeUnsafe (pastOf u cs)
-unsaved-exactly ms = unsaved-exactly-from _ (made-at-rest ms)
-
-pub saved-exactly : (ms : List Made) (cs : List Call) → let u = manufactureOutcome ms .unit in
-    (run u cs .unsaved ≡ false) ↔ AllSafe (pastOf u cs)
-saved-exactly ms = saved-exactly-from _ (made-at-rest ms)
+-- The unsaved mark tells whether every write accepted since the last power-on is safe.
+pub mark-tells : MarkTells outcome
+mark-tells ms = marked-exactly _ (made-saved ms)
 
 -- No byte is left behind.
 pub no-byte-left-behind : NoByteLeftBehind outcome
-no-byte-left-behind ms = last-all-safe _ (made-at-rest ms)
+no-byte-left-behind ms = none-left _ (made-saved ms)

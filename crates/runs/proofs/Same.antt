@@ -110,6 +110,7 @@ pub record StandFor (past : List Deed) (d : Deed) (ds : List Deed) : Type 0 wher
   pub same-others : gather otherIn ds ≡ otherIn d
   pub beginner : gather beginnerIn ds ≡ enderIn d
   pub begun : (k : ℕ) → gather (begunIn k) ds ≡ endedIn k past d
+  pub over : gather enderIn ds ≡ enderIn d
 
 pub record Follows (past : List Deed) (v : Unit) (d : Deed) (u' : Unit) : Type 0 where
   pub ds : List Deed
@@ -156,7 +157,7 @@ module _ (past : List Deed) (u v : Unit) (fine : wellFormed u ≡ true) (same : 
         v' = v';
         runs = runs;
         same = s (left-fine v v' _ _ (same .fine) runs);
-        stand = record { none-refused = refl; same-others = refl; beginner = refl; begun = λ k. refl };
+        stand = record { none-refused = refl; same-others = refl; beginner = refl; begun = λ k. refl; over = refl };
       }
 
   -- ---- calls that change the drive alone
@@ -223,7 +224,7 @@ module _ (past : List Deed) (u v : Unit) (fine : wellFormed u ≡ true) (same : 
         same =
             with-drives (restarted (u .drive)) (restarted (v .drive)) (same .records) (λ quiet. (same .at-rest quiet .0, refl))
             (left-fine v (rested v) _ _ (same .fine) runs);
-        stand = record { none-refused = refl; same-others = refl; beginner = refl; begun = λ k. refl };
+        stand = record { none-refused = refl; same-others = refl; beginner = refl; begun = λ k. refl; over = refl };
       }
 
   -- ---- the medium

@@ -153,7 +153,7 @@ pub invents-count-fails-flush-count : FlushCount inventsCount → ⊥
 unfolding computed
 invents-count-fails-flush-count holds =
     let shown : _≡_ {A = ℕ} 1 2 =
-    holds fresh (stop 0 ∷ next 0 ∷ answer 0 Good ∷ write 1 ∷ next 0 ∷ answer 0 Good ∷ next 0 ∷ []) 0 Good _ refl refl refl
+    holds fresh (stop 0 ∷ next 0 ∷ answer 0 Good ∷ write 1 ∷ next 0 ∷ answer 0 Good ∷ next 0 ∷ []) 0 refl refl .1 Good _ refl
     in
     omega arith
 

@@ -18,7 +18,7 @@ use Rattle.bridge.specs.declared.Acceptance.the-variants.{GoodDue, Pending, Not
 use Rattle.bridge.specs.declared.Next.the-variants.{Send}
 use Rattle.bridge.specs.declared.Progress.the-variants.{More, Ended}
 use Rattle.bridge.specs.declared.Reply.the-variants.{Good, Bad}
-use Rattle.bridge.specs.declared.Status.the-variants.{NoStatus, GoodStatus}
+use Rattle.bridge.specs.declared.Status.the-variants.{NoStatus, GoodStatus, CheckCondition}
 use Rattle.calls.specs.Calls.{Call, tick, read, write, powerOn, startStop, next, answer, Said, plain, accepted, sent, progressed, Event}
 use Rattle.calls.specs.Examples.{off, on, new, keeps, quiet, epc}
 use Rattle.runs.specs.Serial.{Compared}
@@ -71,9 +71,16 @@ afternoon =
     ∷ read 2 says plain (Refused CommandOut)
     -- the flush is good: nothing is unsaved
     ∷ answer 0 Good says progressed More
+    -- host 3's stop begins too, and its first flush is good
+    ∷ startStop 3 stop says accepted Pending
+    ∷ next 3 says sent (Send (registers 0xE7 0 0 0))
+    ∷ answer 3 Good says progressed More
     -- a write between the flush and the stop
     ∷ write 2 says plain Done
-    -- so another flush is sent, and no E0h yet
+    -- so another flush is sent; host 3's is bad, and with IMMED 0 that is told at once: in the serial run this answer stands, and not the good one
+    ∷ next 3 says sent (Send (registers 0xE7 0 0 0))
+    ∷ answer 3 Bad says progressed (Ended (record { status = CheckCondition; sense = WithSense (failureSense CommandSequence); flushes = 2 }))
+    -- host 0 too is given another flush, and no E0h yet
     ∷ next 0 says sent (Send (registers 0xE7 0 0 0))
     ∷ answer 0 Good says progressed More
     -- host 1's flush, between host 0's second flush and its stop, is bad: no status is due, the failure is held, one flush was answered. It began
@@ -109,6 +116,10 @@ serially =
     ∷ tick
     ∷ tick
     ∷ write 2
+    -- host 3's operation whole, where its second flush was answered, with that answer
+    ∷ startStop 3 stop
+    ∷ next 3
+    ∷ answer 3 Bad
     -- host 1's operation whole, where its bad flush was answered
     ∷ startStop 1 toIdleB
     ∷ next 1

@@ -26,16 +26,17 @@ cdbOf k (does c ∷ past) = cdbOf k past
 cdbOf k (aborts c ∷ past) = cdbOf k past
 cdbOf k (refuses c ∷ past) = cdbOf k past
 
--- The command sent last is a flush: "Flush is E7h." One command is out at a time, so an answer is to the command sent last.
-abbrev pub flushSent : List Deed → Bool
-flushSent [] = false
-flushSent (begins host cdb ∷ past) = flushSent past
-flushSent (sends host q ∷ past) = eqb (q .command) 0xE7
-flushSent (goesOn host reply ∷ past) = flushSent past
-flushSent (ends host reply report ∷ past) = flushSent past
-flushSent (does c ∷ past) = flushSent past
-flushSent (aborts c ∷ past) = flushSent past
-flushSent (refuses c ∷ past) = flushSent past
+-- The command that the host was handed last is a flush: "Flush is E7h." That is the command that its answer is to: "that command is then out until
+-- the answer, good or bad, is given."
+abbrev pub flushSent : ℕ → List Deed → Bool
+flushSent k [] = false
+flushSent k (begins host cdb ∷ past) = flushSent k past
+flushSent k (sends host q ∷ past) = cond (eqb host k) (eqb (q .command) 0xE7) (flushSent k past)
+flushSent k (goesOn host reply ∷ past) = flushSent k past
+flushSent k (ends host reply report ∷ past) = flushSent k past
+flushSent k (does c ∷ past) = flushSent k past
+flushSent k (aborts c ∷ past) = flushSent k past
+flushSent k (refuses c ∷ past) = flushSent k past
 
 -- "the answers its last flush and its last command got": a flush's answer takes the place of an earlier flush's, the last command's stands
 -- after it.
@@ -46,8 +47,8 @@ abbrev pub replies : ℕ → List Deed → List Reply
 replies k [] = []
 replies k (begins host cdb ∷ past) = cond (eqb host k) [] (replies k past)
 replies k (sends host q ∷ past) = replies k past
-replies k (goesOn host reply ∷ past) = cond (eqb host k) (gets (flushSent past) reply (replies k past)) (replies k past)
-replies k (ends host reply report ∷ past) = cond (eqb host k) (gets (flushSent past) reply (replies k past)) (replies k past)
+replies k (goesOn host reply ∷ past) = cond (eqb host k) (gets (flushSent host past) reply (replies k past)) (replies k past)
+replies k (ends host reply report ∷ past) = cond (eqb host k) (gets (flushSent host past) reply (replies k past)) (replies k past)
 replies k (does c ∷ past) = replies k past
 replies k (aborts c ∷ past) = replies k past
 replies k (refuses c ∷ past) = replies k past
@@ -57,8 +58,8 @@ abbrev pub flushesAnswered : ℕ → List Deed → ℕ
 flushesAnswered k [] = 0
 flushesAnswered k (begins host cdb ∷ past) = cond (eqb host k) 0 (flushesAnswered k past)
 flushesAnswered k (sends host q ∷ past) = flushesAnswered k past
-flushesAnswered k (goesOn host reply ∷ past) = cond (eqb host k && flushSent past) (suc (flushesAnswered k past)) (flushesAnswered k past)
-flushesAnswered k (ends host reply report ∷ past) = cond (eqb host k && flushSent past) (suc (flushesAnswered k past)) (flushesAnswered k past)
+flushesAnswered k (goesOn host reply ∷ past) = cond (eqb host k && flushSent host past) (suc (flushesAnswered k past)) (flushesAnswered k past)
+flushesAnswered k (ends host reply report ∷ past) = cond (eqb host k && flushSent host past) (suc (flushesAnswered k past)) (flushesAnswered k past)
 flushesAnswered k (does c ∷ past) = flushesAnswered k past
 flushesAnswered k (aborts c ∷ past) = flushesAnswered k past
 flushesAnswered k (refuses c ∷ past) = flushesAnswered k past

@@ -66,7 +66,7 @@ abbrev pub takenByReset : ℕ → List Deed → Bool
 takenByReset k [] = false
 takenByReset k (d ∷ ds) = doesA isReset d || (leavesOpen k d && takenByReset k ds)
 
--- It still waits at the end: no end report and no reset came, and no other START STOP UNIT of its host took its place.
+-- As the history tells it, it still waits: no end report and no reset came, and no other START STOP UNIT of its host took its place.
 abbrev pub stillOpen : ℕ → List Deed → Bool
 stillOpen k [] = true
 stillOpen k (d ∷ ds) = leavesOpen k d && stillOpen k ds
@@ -115,19 +115,16 @@ deedsAfter by u c cs = deeds (historyBy by (by u c .unit) cs)
 abbrev pub unitAfter : StepFunction → Unit → Call → List Call → Unit
 unitAfter by u c cs = runBy by (by u c .unit) cs
 
--- "Each accepted START STOP UNIT has exactly one end report, or was taken by a reset, or still waits at the end."
-abbrev pub OneFate : StepFunction → Type 0
-OneFate by = (u : Unit) (host : ℕ) (cdb : List ℕ) (cs : List Call) → wellFormed u ≡ true → deedBy by u (startStop host cdb) ≡ begins host cdb
-    → fates host (deedsAfter by u (startStop host cdb) cs) ≡ 1
-
--- What is still open does wait, as the CDB asked: an operation with its target and its IMMED.
+-- In the slot waits what the CDB asked for: an operation with its target and its IMMED.
 abbrev pub WaitsAs : List ℕ → Slot → Type 0
 WaitsAs cdb s = (q : Request) × (s ≡ Waiting q) × (wanted cdb ≡ Wants (q .target)) × (immed cdb ≡ q .immed)
 
-abbrev pub OpenWaits : StepFunction → Type 0
-OpenWaits by = (u : Unit) (host : ℕ) (cdb : List ℕ) (cs : List Call) → wellFormed u ≡ true → deedBy by u (startStop host cdb) ≡ begins host cdb
-    → stillOpen host (deedsAfter by u (startStop host cdb) cs) ≡ true
-    → WaitsAs cdb (slotOf (unitAfter by u (startStop host cdb) cs .slots) host)
+-- "Each accepted START STOP UNIT has exactly one end report, or was taken by a reset, or still waits at the end.": one of the three befalls it, and
+-- what still waits by the history does wait in the record.
+abbrev pub OneFate : StepFunction → Type 0
+OneFate by = (u : Unit) (host : ℕ) (cdb : List ℕ) (cs : List Call) → wellFormed u ≡ true → deedBy by u (startStop host cdb) ≡ begins host cdb
+    → let later = deedsAfter by u (startStop host cdb) cs in
+    (fates host later ≡ 1) × (stillOpen host later ≡ true → WaitsAs cdb (slotOf (unitAfter by u (startStop host cdb) cs .slots) host))
 
 -- The last answer makes it fail: it is bad, but "Start counts as good whatever the verify answered".
 abbrev pub fails : Wanted → Reply → Bool
@@ -151,8 +148,8 @@ EndReported by = (u : Unit) (host : ℕ) (cdb : List ℕ) (cs : List Call) (repl
     → deedBy by (unitAfter by u (startStop host cdb) cs) (answer host reply) ≡ ends host reply report
     → ReportsAs cdb reply (by u (startStop host cdb) .said) report
 
--- "A failure with IMMED is what that host's next accepted REQUEST SENSE gives, unless a newer failure or a reset came between." A failure with
--- IMMED is a sense in an end report without a status. It is given once: after that the host holds nothing.
+-- A sense in an end report without a status is what the host's next accepted REQUEST SENSE gives, as a deferred one, and once: after that the host
+-- holds nothing.
 abbrev pub HeldTold : StepFunction → Type 0
 HeldTold by = (u : Unit) (host : ℕ) (reply : Reply) (report : Report) (s : Sense) (cs : List Call) (buffer : List ℕ)
     → wellFormed u ≡ true → deedBy by u (answer host reply) ≡ ends host reply report → report .status ≡ NoStatus → report .sense ≡ WithSense s
@@ -160,3 +157,16 @@ HeldTold by = (u : Unit) (host : ℕ) (reply : Reply) (report : Report) (s : Sen
     → let w = unitAfter by u (answer host reply) cs in
     deedBy by w (requestSense host buffer) ≡ does (requestSense host buffer)
     → (by w (requestSense host buffer) .buffer ≡ senseBytes true s) × (heldOf (by w (requestSense host buffer) .unit .held) host ≡ Nothing)
+
+-- "A failure with IMMED is what that host's next accepted REQUEST SENSE gives, unless a newer failure or a reset came between.": a START STOP UNIT
+-- accepted with IMMED 1; its last answer, by which it fails; nothing that takes the held sense; the bytes of the failure.
+abbrev pub FailureTold : StepFunction → Type 0
+FailureTold by = (u : Unit) (host : ℕ) (cdb : List ℕ) (cs : List Call) (reply : Reply) (report : Report) (later : List Call) (buffer : List ℕ)
+    → wellFormed u ≡ true → deedBy by u (startStop host cdb) ≡ begins host cdb → immed cdb ≡ true → fails (wanted cdb) reply ≡ true
+    → stillOpen host (deedsAfter by u (startStop host cdb) cs) ≡ true
+    → let v = unitAfter by u (startStop host cdb) cs in
+    deedBy by v (answer host reply) ≡ ends host reply report
+    → everyAt (keepsHeld host) 0 (deedsAfter by v (answer host reply) later) ≡ true
+    → let w = unitAfter by v (answer host reply) later in
+    deedBy by w (requestSense host buffer) ≡ does (requestSense host buffer)
+    → by w (requestSense host buffer) .buffer ≡ senseBytes true (failureSense CommandSequence)

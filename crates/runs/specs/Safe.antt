@@ -1,10 +1,11 @@
--- No byte left behind, told by the history alone: the calls and what they said, and no word of the record.
+-- No byte left behind, told by the history alone: the calls and what they said. Only the last definition speaks of the unsaved mark.
 use mathlib.Core.Bool.{Bool, true, false, not, _&&_}
 use mathlib.Core.Path.{_≡_}
 use mathlib.Core.List.{List, [], _∷_}
+use mathlib.Core.Logic.{_↔_}
 use Prim.Native.Nat.{ℕ, _<_}
 use lib.Dec.{eqb}
-use lib.ListN.{drop}
+use lib.ListN.{take, drop}
 use Rattle.drive.specs.declared.Made.{Made}
 use Rattle.unit.specs.Calls.{manufactureOutcome}
 use Rattle.unit.specs.declared.Target.the-variants.{Stop, Start, GoTo}
@@ -12,7 +13,7 @@ use Rattle.bridge.specs.Cdb.{noFlush, wanted}
 use Rattle.bridge.specs.Operations.{isGood}
 use Rattle.bridge.specs.declared.Wanted.{Wanted}
 use Rattle.bridge.specs.declared.Wanted.the-variants.{Wants, Unlisted}
-use Rattle.calls.specs.Calls.{Call, StepFunction}
+use Rattle.calls.specs.Calls.{Call, StepFunction, runBy}
 use Rattle.calls.specs.Kinds.{isPowerOn, isWrite}
 use Rattle.runs.specs.Deeds.{Deed, begins, sends, goesOn, ends, does, aborts, refuses, doesA}
 use Rattle.runs.specs.Past.{pastBy, cdbOf, flushSent}
@@ -27,20 +28,16 @@ abbrev pub latestPoweredOn : List Deed → Bool
 latestPoweredOn [] = false
 latestPoweredOn (d ∷ past) = doesA isPowerOn d
 
--- The drive's answer was taken, and was good.
-abbrev pub answeredGood : Deed → Bool
-answeredGood (begins host cdb) = false
-answeredGood (sends host q) = false
-answeredGood (goesOn host reply) = isGood reply
-answeredGood (ends host reply report) = isGood reply
-answeredGood (does c) = false
-answeredGood (aborts c) = false
-answeredGood (refuses c) = false
-
 -- A good answer to a flush.
 abbrev pub latestFlushed : List Deed → Bool
 latestFlushed [] = false
-latestFlushed (d ∷ past) = flushSent past && answeredGood d
+latestFlushed (begins host cdb ∷ past) = false
+latestFlushed (sends host q ∷ past) = false
+latestFlushed (goesOn host reply ∷ past) = flushSent host past && isGood reply
+latestFlushed (ends host reply report ∷ past) = flushSent host past && isGood reply
+latestFlushed (does c ∷ past) = false
+latestFlushed (aborts c ∷ past) = false
+latestFlushed (refuses c ∷ past) = false
 
 -- ---- writes, by how many calls ago they came (0: the latest call)
 
@@ -50,9 +47,9 @@ Written past i = latestWrote (drop i past) ≡ true
 abbrev pub SincePowerOn : List Deed → ℕ → Type 0
 SincePowerOn past i = (j : ℕ) → j < i → latestPoweredOn (drop j past) ≡ false
 
--- A write is safe once a good flush was answered after it.
+-- A write is safe once a good flush was answered after it: one that was sent and answered among the calls since the write, which are the latest i.
 abbrev pub Safe : List Deed → ℕ → Type 0
-Safe past i = (j : ℕ) × (j < i) × (latestFlushed (drop j past) ≡ true)
+Safe past i = (j : ℕ) × (j < i) × (latestFlushed (drop j (take i past)) ≡ true)
 
 -- Every write accepted since the last power-on is safe.
 abbrev pub AllSafe : List Deed → Type 0
@@ -77,19 +74,37 @@ flushing (Wants (GoTo c)) without = not without
 abbrev pub asksFlush : List ℕ → Bool
 asksFlush cdb = flushing (wanted cdb) (noFlush cdb)
 
--- The latest call hands out the last command of a flushing operation, or is the good answer to it.
-abbrev pub latestIsLast : List Deed → Bool
-latestIsLast [] = false
-latestIsLast (begins host cdb ∷ past) = false
-latestIsLast (sends host q ∷ past) = asksFlush (cdbOf host past) && not (eqb (q .command) 0xE7)
-latestIsLast (goesOn host reply ∷ past) = false
-latestIsLast (ends host reply report ∷ past) = asksFlush (cdbOf host past) && isGood reply
-latestIsLast (does c ∷ past) = false
-latestIsLast (aborts c ∷ past) = false
-latestIsLast (refuses c ∷ past) = false
+-- The latest call hands out the last command of a flushing operation.
+abbrev pub lastGoesOut : List Deed → Bool
+lastGoesOut [] = false
+lastGoesOut (begins host cdb ∷ past) = false
+lastGoesOut (sends host q ∷ past) = asksFlush (cdbOf host past) && not (eqb (q .command) 0xE7)
+lastGoesOut (goesOn host reply ∷ past) = false
+lastGoesOut (ends host reply report ∷ past) = false
+lastGoesOut (does c ∷ past) = false
+lastGoesOut (aborts c ∷ past) = false
+lastGoesOut (refuses c ∷ past) = false
+
+-- The latest call is the good answer to it: a good answer that ends the operation.
+abbrev pub lastAnsweredGood : List Deed → Bool
+lastAnsweredGood [] = false
+lastAnsweredGood (begins host cdb ∷ past) = false
+lastAnsweredGood (sends host q ∷ past) = false
+lastAnsweredGood (goesOn host reply ∷ past) = false
+lastAnsweredGood (ends host reply report ∷ past) = asksFlush (cdbOf host past) && isGood reply
+lastAnsweredGood (does c ∷ past) = false
+lastAnsweredGood (aborts c ∷ past) = false
+lastAnsweredGood (refuses c ∷ past) = false
 
 -- Whenever a flushing operation's last command goes out, and when it is answered good, every write accepted since the last power-on is safe:
 -- over any run of calls on a unit from its manufacture on.
 abbrev pub NoByteLeftBehind : StepFunction → Type 0
 NoByteLeftBehind by = (ms : List Made) (cs : List Call) → let past = pastBy by (manufactureOutcome ms .unit) cs in
-    latestIsLast past ≡ true → AllSafe past
+    (lastGoesOut past ≡ true → AllSafe past) × (lastAnsweredGood past ≡ true → AllSafe past)
+
+-- ---- the unsaved mark
+
+-- It is set exactly when some write accepted since the last power-on is not safe, and clear exactly when every one is.
+abbrev pub MarkTells : StepFunction → Type 0
+MarkTells by = (ms : List Made) (cs : List Call) → let u = manufactureOutcome ms .unit in
+    ((runBy by u cs .unsaved ≡ true) ↔ SomeUnsafe (pastBy by u cs)) × ((runBy by u cs .unsaved ≡ false) ↔ AllSafe (pastBy by u cs))

@@ -13,7 +13,7 @@ use Rattle.unit.specs.Units.{isWaiting, wellFormed}
 use Rattle.unit.specs.declared.HostHeld.{HostHeld}
 use Rattle.unit.specs.declared.Unit.{Unit}
 use Rattle.bridge.specs.declared.Reply.{Reply}
-use Rattle.calls.specs.Calls.{Call, startStop, next, answer, StepFunction, Event, runBy, historyBy, run}
+use Rattle.calls.specs.Calls.{Call, startStop, next, answer, StepFunction, Event, runBy, historyBy, run, history}
 use Rattle.calls.specs.Kinds.{isReset}
 use Rattle.runs.specs.Deeds.{Deed, begins, sends, goesOn, ends, does, aborts, refuses, deeds}
 use Rattle.runs.specs.Past.{cdbOf, replies}
@@ -60,7 +60,8 @@ resetsAtRest by u (c ∷ cs) = (not (isReset c) || nothingWaits u) && resetsAtRe
 
 -- ---- what is compared
 
--- "the settings, power condition and its cause, idle count, stopped mark, unsaved mark and held deferred senses".
+-- "the settings, power condition and its cause, idle count, stopped mark, unsaved mark and held deferred senses": the settings in the five records,
+-- with what the maker said of each condition. "What hosts are told halfway is not compared." Nor are slots and what is out: none waits in either run.
 pub record Compared : Type 0 where
   pub settings : List Record
   pub power : Power
@@ -145,11 +146,21 @@ enderIn (does c) = []
 enderIn (aborts c) = []
 enderIn (refuses c) = []
 
--- Of the deeds of a real run and those of its serial run: none of the serial list is refused but for the aborts; its calls other than START STOP
--- UNIT, next and answer are the real run's accepted such calls and aborts, in order; its START STOP UNITs are the accepted pairs of host and CDB,
--- one each (host by host the same CDBs), in the order of their last answers.
-pub record Serialises (real made : List Deed) : Type 0 where
-  pub none-refused : gather refusedIn made ≡ []
-  pub same-others : gather otherIn made ≡ gather otherIn real
-  pub one-each : (host : ℕ) → gather (begunIn host) made ≡ gather (begunIn host) real
-  pub in-order : gather beginnerIn made ≡ gather enderIn real
+-- The deeds of a real run beside those of its serial run.
+pub record Serialises (real serially : List Deed) : Type 0 where
+  -- No call of the serial list is refused, but for the aborts.
+  pub none-refused : gather refusedIn serially ≡ []
+  -- Its calls other than START STOP UNIT, next and answer are the real run's accepted such calls and aborts, in order.
+  pub same-others : gather otherIn serially ≡ gather otherIn real
+  -- Its START STOP UNITs are the accepted pairs of host and CDB, one each: host by host the same CDBs, in the same order,
+  pub one-each : (host : ℕ) → gather (begunIn host) serially ≡ gather (begunIn host) real
+  -- and all hosts together in the order of their last answers. (A host has one operation at a time, so this says which pair stands where.)
+  pub in-order : gather beginnerIn serially ≡ gather enderIn real
+  -- Each is run to its end.
+  pub over : gather enderIn serially ≡ gather enderIn real
+
+-- So it is of every run that demand 3 speaks of.
+abbrev pub SerialRun : StepFunction → Type 0
+SerialRun by = (u : Unit) (cs : List Call) → wellFormed u ≡ true → nothingWaits u ≡ true → resetsAtRest by u cs ≡ true
+    → nothingWaits (runBy by u cs) ≡ true
+    → Serialises (deeds (historyBy by u cs)) (deeds (history u (serial (historyBy by u cs))))
