@@ -8,6 +8,7 @@ use Rattle.drive.specs.declared.Cause.the-variants.{Timer}
 use Rattle.drive.specs.declared.Power.the-variants.{Active, Low}
 use Rattle.unit.specs.Units.{wellFormed}
 use Rattle.calls.specs.Calls.{requestSense, outcome, run, history}
+use Rattle.runs.specs.Past.{pastOf, flushesAnswered}
 use Rattle.runs.specs.Serial.{serial, nothingWaits, resetsAtRest, compared}
 use Rattle.runs.specs.Afternoon.{lineOf, noon, afternoon, callsMade, serially, evening}
 use Rattle.runs.proofs.Computed.{computed}
@@ -64,6 +65,14 @@ ticks-count = refl
 pub marks-apart : (run noon (take 20 callsMade) .unsaved ≡ false) × (run noon (take 11 serially) .unsaved ≡ true)
 unfolding computed
 marks-apart = (refl, refl)
+
+-- ---- what was counted
+
+-- Flushes answered for hosts 0, 1 and 3, good and bad, as the history has them: the counts in their end reports.
+pub counted : (flushesAnswered 0 (pastOf noon callsMade) ≡ 2) × (flushesAnswered 1 (pastOf noon callsMade) ≡ 1)
+    × (flushesAnswered 3 (pastOf noon callsMade) ≡ 2)
+unfolding computed
+counted = (refl, refl, refl)
 
 -- ---- the failure is not lost
 

@@ -5,7 +5,7 @@ use Rattle.pages.specs.Senses.{senseBytes}
 use Rattle.epc.specs.Epc.{aborts, performed}
 use Rattle.unit.specs.Units.{hostsWellFormed, wellFormed}
 use Rattle.unit.specs.Refusals.{lowest}
-use Rattle.unit.specs.Calls.{epcOutcome, tickOutcome, readOutcome, writeOutcome, powerOnOutcome, senseOutcome}
+use Rattle.unit.specs.Calls.{epcOutcome, tickOutcome, readOutcome, writeOutcome, powerOnOutcome, resetOutcome, senseOutcome, logOutcome}
 use Rattle.bridge.specs.Cdb.{wanted, isListed}
 use Rattle.bridge.specs.Operations.{answeredFor}
 use Rattle.bridge.specs.Bridge.{startStopOutcome, nextOutcome, answerOutcome}
@@ -13,5 +13,5 @@ use Rattle.calls.specs.Calls.{StepFunction, outcome}
 
 -- The layer's step. Who says `unfolding computed` has open what its line names, and so can compute a run of these calls.
 unfoldable pub computed : StepFunction
-unfolding recordWellFormed recordsWellFormed driveWellFormed timersAsk ticked used poweredOn made senseBytes aborts performed hostsWellFormed wellFormed lowest epcOutcome tickOutcome readOutcome writeOutcome powerOnOutcome senseOutcome wanted isListed answeredFor startStopOutcome nextOutcome answerOutcome
+unfolding recordWellFormed recordsWellFormed driveWellFormed timersAsk ticked used poweredOn made senseBytes aborts performed hostsWellFormed wellFormed lowest epcOutcome tickOutcome readOutcome writeOutcome powerOnOutcome resetOutcome senseOutcome logOutcome wanted isListed answeredFor startStopOutcome nextOutcome answerOutcome
 computed = outcome

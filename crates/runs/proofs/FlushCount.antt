@@ -6,7 +6,7 @@ use mathlib.Core.List.{List, _∷_}
 use Prim.Native.Nat.{ℕ, suc}
 use lib.Dec.{eqb}
 use borrow.Author.Tests.{eq-eqb}
-use Rattle.unit.specs.Units.{slotOf, wellFormed}
+use Rattle.unit.specs.Units.{slotOf}
 use Rattle.unit.specs.declared.Stage.{Stage}
 use Rattle.unit.specs.declared.Stage.the-variants.{Straight, Flushing}
 use Rattle.unit.specs.declared.Request.{Request}
@@ -15,10 +15,9 @@ use Rattle.unit.specs.declared.Unit.{Unit}
 use Rattle.bridge.specs.Cdb.{noFlush, stageFor}
 use Rattle.bridge.specs.Operations.{dueFrom, isFlush, oneMore, flushesOf}
 use Rattle.bridge.specs.declared.Reply.{Reply}
-use Rattle.calls.specs.Calls.{Call, answer, outcome, run}
+use Rattle.calls.specs.Calls.{answer, outcome, run}
 use Rattle.runs.specs.Deeds.{Deed, begins, sends, goesOn, ends, does, aborts, refuses}
 use Rattle.runs.specs.Past.{pastOf, flushSent, flushesAnswered, heldAt255}
-use Rattle.runs.specs.Serial.{nothingWaits}
 use Rattle.runs.specs.FlushCount.{FlushCount}
 use Rattle.runs.proofs.Deeds.{Taken, Cases, by-deed}
 use Rattle.runs.proofs.Known.{Reached, Noted, Known, counts-on, sent-due, known-after}

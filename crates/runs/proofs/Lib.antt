@@ -13,5 +13,6 @@ pub mod FlushCount
 pub mod Reports
 pub mod Idle
 pub mod Computed
-pub mod WrongSteps
 pub mod Afternoon
+pub mod Outside
+pub mod WrongSteps

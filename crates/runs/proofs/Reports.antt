@@ -357,7 +357,7 @@ end-reported u host cdb cs reply report fine accepts unended ends-here =
 module _ (k : ℕ) where
   module _ (u : Unit) where
     abbrev Kept : Deed → Unit → Type 0
-    Kept d v = keepsHeld k 0 d ≡ true → heldOf (v .held) k ≡ heldOf (u .held) k
+    Kept d v = keepsHeld k d ≡ true → heldOf (v .held) k ≡ heldOf (u .held) k
 
     other-held : (host : ℕ) (h : Held) → eqb host k ≡ false → heldOf (set (u .held) host (record { held = h })) k ≡ heldOf (u .held) k
     other-held host h other =
@@ -369,7 +369,7 @@ module _ (k : ℕ) where
         → Kept (ends host reply (reportFailed (q .immed) CommandSequence n)) (failed u host q CommandSequence n .unit)
     failed-kept host reply q n h = ap (λ (l : List HostHeld). heldOf l k) (failed-held u host q n) ∙ on (q .immed) h
       where
-        on : (b : Bool) → keepsHeld k 0 (ends host reply (reportFailed b CommandSequence n)) ≡ true
+        on : (b : Bool) → keepsHeld k (ends host reply (reportFailed b CommandSequence n)) ≡ true
             → heldOf (heldAfter (u .held) host b) k ≡ heldOf (u .held) k
         on true h = other-held host (Holds CommandSequence) (apart (eqb host k) h)
           where
@@ -399,11 +399,11 @@ module _ (k : ℕ) where
       logs = λ buffer clear h. refl;
     })
 
-  run-kept : (u : Unit) (cs : List Call) (at : ℕ) → everyAt (keepsHeld k) at (deeds (history u cs)) ≡ true
+  run-kept : (u : Unit) (cs : List Call) (at : ℕ) → everyAt (λ i d. keepsHeld k d) at (deeds (history u cs)) ≡ true
       → heldOf (run u cs .held) k ≡ heldOf (u .held) k
   run-kept u [] at h = refl
   run-kept u (c ∷ cs) at h =
-      run-kept (step u c) cs (suc at) (and-right (keepsHeld k at (deedAt u c)) _ h) ∙ kept u c (and-left (keepsHeld k at (deedAt u c)) _ h)
+      run-kept (step u c) cs (suc at) (and-right (keepsHeld k (deedAt u c)) _ h) ∙ kept u c (and-left (keepsHeld k (deedAt u c)) _ h)
 
 -- ---- REQUEST SENSE
 

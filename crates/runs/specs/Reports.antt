@@ -99,8 +99,8 @@ defersFor k (aborts c) = false
 defersFor k (refuses c) = false
 
 -- The host's held sense stays through these: no newer failure of its own is held, no reset, no REQUEST SENSE of its own is accepted.
-abbrev pub keepsHeld : ℕ → ℕ → Deed → Bool
-keepsHeld k at d = not (defersFor k d) && not (doesA isReset d) && not (doesA (isSenseOf (λ host. eqb host k)) d)
+abbrev pub keepsHeld : ℕ → Deed → Bool
+keepsHeld k d = not (defersFor k d) && not (doesA isReset d) && not (doesA (isSenseOf (λ host. eqb host k)) d)
 
 -- ---- the statements, of any step function
 
@@ -153,7 +153,7 @@ EndReported by = (u : Unit) (host : ℕ) (cdb : List ℕ) (cs : List Call) (repl
 abbrev pub HeldTold : StepFunction → Type 0
 HeldTold by = (u : Unit) (host : ℕ) (reply : Reply) (report : Report) (s : Sense) (cs : List Call) (buffer : List ℕ)
     → wellFormed u ≡ true → deedBy by u (answer host reply) ≡ ends host reply report → report .status ≡ NoStatus → report .sense ≡ WithSense s
-    → everyAt (keepsHeld host) 0 (deedsAfter by u (answer host reply) cs) ≡ true
+    → everyAt (λ at d. keepsHeld host d) 0 (deedsAfter by u (answer host reply) cs) ≡ true
     → let w = unitAfter by u (answer host reply) cs in
     deedBy by w (requestSense host buffer) ≡ does (requestSense host buffer)
     → (by w (requestSense host buffer) .buffer ≡ senseBytes true s) × (heldOf (by w (requestSense host buffer) .unit .held) host ≡ Nothing)
@@ -166,7 +166,7 @@ FailureTold by = (u : Unit) (host : ℕ) (cdb : List ℕ) (cs : List Call) (repl
     → stillOpen host (deedsAfter by u (startStop host cdb) cs) ≡ true
     → let v = unitAfter by u (startStop host cdb) cs in
     deedBy by v (answer host reply) ≡ ends host reply report
-    → everyAt (keepsHeld host) 0 (deedsAfter by v (answer host reply) later) ≡ true
+    → everyAt (λ at d. keepsHeld host d) 0 (deedsAfter by v (answer host reply) later) ≡ true
     → let w = unitAfter by v (answer host reply) later in
     deedBy by w (requestSense host buffer) ≡ does (requestSense host buffer)
     → by w (requestSense host buffer) .buffer ≡ senseBytes true (failureSense CommandSequence)
