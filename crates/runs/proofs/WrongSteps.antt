@@ -1,27 +1,34 @@
 -- Each wrong program is refuted by a run that is computed: the predicate it should fail is taken at that run, and one part of what it says there
--- is false. Where demand 3 does not see a wrong program, that is shown too.
-use mathlib.Core.Bool.{true, false, true≢false, false≢true}
-use mathlib.Core.Path.{_≡_, refl, ap}
+-- is false. Where demand 3 does not see a wrong program, that is shown on a run, and of the one that refuses all on every run.
+use mathlib.Core.Bool.{Bool, true, false, not, _&&_, true≢false, false≢true}
+use mathlib.Core.Path.{_≡_, refl, sym, ap, _∙_}
 use mathlib.Core.List.{List, [], _∷_}
-use Prim.Native.Nat.{ℕ}
+use Prim.Native.Nat.{ℕ, zero, suc}
 use native.Mathlib.Omega.{arith}
-use lib.ListN.{getD, replicate}
+use lib.ListN.{getD, replicate, take, drop}
+use borrow.Author.Tests.{not-true}
+use Rattle.rows.proofs.Places.{and-left, and-right}
 use Rattle.drive.specs.Conditions.{depth}
 use Rattle.drive.specs.declared.Condition.the-variants.{StandbyZ}
 use Rattle.drive.specs.declared.Cause.the-variants.{Command}
+use Rattle.drive.specs.declared.Made.{Made}
 use Rattle.drive.specs.declared.Power.the-variants.{Low}
-use Rattle.unit.specs.Units.{noneHeld}
+use Rattle.unit.specs.Units.{noneHeld, isWaiting}
+use Rattle.unit.specs.Calls.{manufactureOutcome}
 use Rattle.unit.specs.declared.Refusal.the-variants.{BadRecord, OwnWaiting}
 use Rattle.unit.specs.declared.Unit.{Unit}
 use Rattle.bridge.specs.declared.Next.the-variants.{Send, NotSent}
 use Rattle.bridge.specs.declared.Reply.the-variants.{Good, Bad}
 use Rattle.calls.specs.Calls.{Call, setFeatures, tick, read, write, powerOn, hardReset, softReset, startStop, next, answer, requestSense, logPage, Said, plain, accepted, sent, progressed, Outcome, StepFunction, runBy, historyBy, run}
-use Rattle.calls.specs.Examples.{*g20, *l, *m, fresh, quiet, epc, Examples}
+use Rattle.calls.specs.Examples.{*g20, *l, *m, off, makes, fresh, quiet, epc, Examples}
 use Rattle.calls.specs.Numbers.{Numbers}
 use Rattle.runs.specs.Deeds.{Deed, refuses, deedOf, deeds}
 use Rattle.runs.specs.Serial.{serialAfter, serial, nothingWaits, resetsAtRest, Compared, compared, Demand3}
+use Rattle.runs.specs.Past.{pastBy}
+use Rattle.runs.specs.Safe.{latestPoweredOn, latestFlushed, Written, lastGoesOut, NoByteLeftBehind, MarkTells}
+use Rattle.runs.specs.Reports.{OneFate, EndReported, FailureTold}
 use Rattle.runs.specs.FlushCount.{FlushCount}
-use Rattle.runs.specs.WrongSteps.{flushesOnce, clearsMark, keepsPower, badFlushSaves, refusesAll, oneForAll, inventsCount, alwaysActive}
+use Rattle.runs.specs.WrongSteps.{flushesOnce, clearsMark, writesThrough, changesNothing, keepsPower, badFlushSaves, refusesAll, oneForAll, inventsCount, swallows, mutes, forgets, isDue, alwaysActive}
 use Rattle.runs.proofs.Computed.{computed}
 
 abbrev stop : ℕ → Call
@@ -80,6 +87,55 @@ pub clears-mark-agrees : Agrees clearsMark writeBetween
 unfolding computed
 clears-mark-agrees = (refl, refl, refl, refl)
 
+-- ---- no byte left behind
+
+-- The new unit, from its manufacture.
+abbrev asked : List Made
+asked = replicate 5 (makes off)
+
+-- At no place of the past does the test hold of the latest call.
+abbrev never : (List Deed → Bool) → List Deed → Bool
+never latest [] = true
+never latest (d ∷ past) = not (latest (d ∷ past)) && never latest past
+
+never-at : (latest : List Deed → Bool) → latest [] ≡ false → (past : List Deed) → never latest past ≡ true → (j : ℕ) → latest (drop j past) ≡ false
+never-at latest none [] h zero = none
+never-at latest none [] h (suc j) = none
+never-at latest none (d ∷ past) h zero = not-true _ (and-left (not (latest (d ∷ past))) _ h)
+never-at latest none (d ∷ past) h (suc j) = never-at latest none past (and-right (not (latest (d ∷ past))) _ h) j
+
+-- A run after which a flushing operation's last command goes out, with a write i calls ago and no flush sent and answered good since.
+leaves-bytes : (by : StepFunction) (cs : List Call) (i : ℕ) → let past = pastBy by (manufactureOutcome asked .unit) cs in
+    lastGoesOut past ≡ true → Written past i → never latestPoweredOn past ≡ true → never latestFlushed (take i past) ≡ true → NoByteLeftBehind by → ⊥
+leaves-bytes by cs i out written powered flushed holds =
+    let past = pastBy by (manufactureOutcome asked .unit) cs in
+    let safe = holds asked cs .0 out i written (λ j before. never-at latestPoweredOn refl past powered j) in
+    true≢false (sym (safe .2) ∙ never-at latestFlushed refl (take i past) flushed (safe .0))
+
+-- Example m's run: the stop goes out right after the write.
+abbrev goesOut : List Call
+goesOut = stop 0 ∷ next 0 ∷ answer 0 Good ∷ write 1 ∷ next 0 ∷ []
+
+pub flushes-once-leaves-bytes : NoByteLeftBehind flushesOnce → ⊥
+unfolding computed manufactureOutcome
+flushes-once-leaves-bytes = leaves-bytes flushesOnce goesOut 1 refl refl refl refl
+
+-- What is said over the history sees the one that clears the mark too.
+pub clears-mark-leaves-bytes : NoByteLeftBehind clearsMark → ⊥
+unfolding computed manufactureOutcome
+clears-mark-leaves-bytes = leaves-bytes clearsMark goesOut 1 refl refl refl refl
+
+-- The flush is sent, then the write is taken, then the flush is answered good, and the stop goes out.
+pub writes-through-leaves-bytes : NoByteLeftBehind writesThrough → ⊥
+unfolding computed manufactureOutcome
+writes-through-leaves-bytes = leaves-bytes writesThrough (stop 0 ∷ next 0 ∷ write 1 ∷ answer 0 Good ∷ next 0 ∷ []) 2 refl refl refl refl
+
+-- Host 0's stop goes out over host 2's write, since host 1's bad flush came between.
+pub bad-flush-saves-leaves-bytes : NoByteLeftBehind badFlushSaves → ⊥
+unfolding computed manufactureOutcome
+bad-flush-saves-leaves-bytes =
+    leaves-bytes badFlushSaves (stop 0 ∷ stop 1 ∷ next 0 ∷ answer 0 Good ∷ write 2 ∷ next 1 ∷ answer 1 Bad ∷ next 0 ∷ []) 3 refl refl refl refl
+
 -- ---- failures
 
 -- From Idle_B a stop whose flush is bad leaves Active.
@@ -96,6 +152,20 @@ pub bad-flush-saves-fails-demand-3 : Demand3 badFlushSaves → ⊥
 unfolding computed
 bad-flush-saves-fails-demand-3 holds =
     false≢true (ap (λ (k : Compared). k .unsaved) (holds fresh (write 1 ∷ stop 0 ∷ next 0 ∷ answer 0 Bad ∷ []) refl refl refl refl))
+
+-- ---- "one that changes nothing fails the effects"
+
+pub changes-nothing-fails-demand-3 : Demand3 changesNothing → ⊥
+unfolding computed
+changes-nothing-fails-demand-3 holds =
+    false≢true (ap (λ (k : Compared). k .unsaved) (holds fresh (write 0 ∷ []) refl refl refl refl))
+
+-- A write is not safe, and the mark stays clear.
+pub changes-nothing-fails-mark : MarkTells changesNothing → ⊥
+unfolding computed manufactureOutcome
+changes-nothing-fails-mark holds =
+    let unsafe = holds asked (write 0 ∷ []) .1 .0 refl 0 refl (λ j before. absurd (omega arith)) in
+    omega (arith, unsafe .1)
 
 -- ---- "one that refuses all .. fails demand 2's tables"
 
@@ -155,6 +225,33 @@ invents-count-fails-flush-count holds =
     let shown : _≡_ {A = ℕ} 1 2 =
     holds fresh (stop 0 ∷ next 0 ∷ answer 0 Good ∷ write 1 ∷ next 0 ∷ answer 0 Good ∷ next 0 ∷ []) 0 refl refl .1 Good _ refl
     in
+    omega arith
+
+-- ---- answers lost
+
+abbrev stopImmediate : List ℕ
+stopImmediate = 0x1B ∷ 1 ∷ 0 ∷ 0 ∷ 0 ∷ 0 ∷ []
+
+-- Its flush is bad, the operation is over, and by what was said it still waits; but nothing waits.
+pub swallows-fails-fate : OneFate swallows → ⊥
+unfolding computed
+swallows-fails-fate holds =
+    let waits = holds fresh 0 stopImmediate (next 0 ∷ answer 0 Bad ∷ []) refl refl .1 refl in
+    false≢true (ap isWaiting (waits .1))
+
+-- The failure is not in the report,
+pub mutes-fails-report : EndReported mutes → ⊥
+unfolding computed
+mutes-fails-report holds =
+    let reported = holds fresh 0 stopImmediate (next 0 ∷ []) Bad _ refl refl refl refl in
+    false≢true (ap isDue (reported .sense))
+
+-- or not in what REQUEST SENSE tells.
+pub forgets-fails-failure : FailureTold forgets → ⊥
+unfolding computed
+forgets-fails-failure holds =
+    let told = holds fresh 0 stopImmediate (next 0 ∷ []) Bad _ [] (replicate 18 0) refl refl refl refl refl refl refl refl in
+    let shown : _≡_ {A = ℕ} 0x70 0x71 = ap (λ (l : List ℕ). getD l 0 0) told in
     omega arith
 
 -- ---- one that "always reports Active fails demand 2's tables"

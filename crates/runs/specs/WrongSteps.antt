@@ -1,8 +1,9 @@
--- Document 01, "Holding the wording to account": wrong programs, as step functions. Each does as the layer does but for its own slip.
+-- Wrong programs, as step functions: those of document 01, "Holding the wording to account", in quotation marks, and others. Each does as the layer does
+-- but for its own slip.
 use mathlib.Core.Bool.{Bool, true, false, not, _&&_, cond}
 use lib.Dec.{eqb}
 use Rattle.drive.specs.declared.Power.the-variants.{Active}
-use Rattle.unit.specs.Units.{slotOf, withMarks}
+use Rattle.unit.specs.Units.{slotOf, unitOf, withMarks, withOut}
 use Rattle.unit.specs.declared.Refusal.{Refusal}
 use Rattle.unit.specs.declared.Refusal.the-variants.{BadRecord, OwnWaiting}
 use Rattle.unit.specs.declared.SenseDue.{SenseDue}
@@ -18,6 +19,7 @@ use Rattle.bridge.specs.declared.Acceptance.the-variants.{GoodDue, Pending, Not
 use Rattle.bridge.specs.declared.Next.the-variants.{NotSent}
 use Rattle.bridge.specs.declared.Progress.the-variants.{More, Ended, NotTaken}
 use Rattle.calls.specs.Calls.{Call, setFeatures, tick, read, write, powerOn, hardReset, softReset, startStop, next, answer, requestSense, logPage, Said, plain, accepted, sent, progressed, Outcome, outcome, StepFunction}
+use Rattle.calls.specs.Kinds.{isWrite}
 use Rattle.calls.specs.Table.{verdictIn, isClear}
 use Rattle.calls.specs.Numbers.{lent}
 use Rattle.runs.specs.Serial.{nothingWaits}
@@ -67,6 +69,16 @@ flushesOnce u c = cond (afterFlush u c) (leaving (marked (u .unsaved) (unlooked 
 -- One that also clears the mark as the last command goes out, as if the flush had been sent. A refusal still leaves it.
 abbrev pub clearsMark : StepFunction
 clearsMark u c = cond (afterFlush u c && isClear (verdictIn (outcome u c .said))) (unlooked u c) (outcome u c)
+
+-- One that takes a write while a command is out, as if none were: the flush that is out may not cover it.
+abbrev pub writesThrough : StepFunction
+writesThrough u c =
+    let o = outcome (withOut NoneOut u) c in
+    cond (isWrite c) (leaving (withOut (u .out) (o .unit)) o) (outcome u c)
+
+-- "one that changes nothing": it says what the layer says.
+abbrev pub changesNothing : StepFunction
+changesNothing u c = leaving u (outcome u c)
 
 -- ---- failures
 
@@ -144,6 +156,38 @@ recounted (progressed (NotTaken r)) = progressed (NotTaken r)
 
 abbrev pub inventsCount : StepFunction
 inventsCount u c = saying (recounted (outcome u c .said)) (outcome u c)
+
+-- One that swallows end reports: it says that more is to come where an operation is over.
+abbrev pub swallowed : Said → Said
+swallowed (plain a) = plain a
+swallowed (accepted a) = accepted a
+swallowed (sent n) = sent n
+swallowed (progressed More) = progressed More
+swallowed (progressed (Ended report)) = progressed More
+swallowed (progressed (NotTaken r)) = progressed (NotTaken r)
+
+abbrev pub swallows : StepFunction
+swallows u c = saying (swallowed (outcome u c .said)) (outcome u c)
+
+-- One that ends a failure as if it had gone well: its report has no sense.
+abbrev pub muted : Said → Said
+muted (plain a) = plain a
+muted (accepted a) = accepted a
+muted (sent n) = sent n
+muted (progressed More) = progressed More
+muted (progressed (Ended report)) =
+    progressed (Ended (record { status = report .status; sense = NoSense; flushes = report .flushes }))
+muted (progressed (NotTaken r)) = progressed (NotTaken r)
+
+abbrev pub mutes : StepFunction
+mutes u c = saying (muted (outcome u c .said)) (outcome u c)
+
+-- One that holds no failure, though it reports it as held.
+abbrev pub forgets : StepFunction
+forgets u c =
+    cond (isFailure (outcome u c .said))
+    (leaving (unitOf (outcome u c .unit .drive) (outcome u c .unit .stopped) (outcome u c .unit .unsaved) (outcome u c .unit .slots) (u .held) (outcome u c .unit .out))
+    (outcome u c)) (outcome u c)
 
 -- One that "always reports Active": the bytes are those of an Active unit. The condition is in no other buffer, so no other call is touched.
 abbrev pub alwaysActive : StepFunction
