@@ -10,7 +10,10 @@ pub mod Demand3
 pub mod Since
 pub mod Safe
 pub mod FlushCount
+pub mod HeldSenses
+pub mod Fates
 pub mod Reports
+pub mod Held
 pub mod Idle
 pub mod Computed
 pub mod Afternoon
