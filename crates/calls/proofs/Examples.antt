@@ -15,7 +15,6 @@ use Rattle.unit.specs.Calls.{epcOutcome, tickOutcome, writeOutcome, senseOutcom
 use Rattle.bridge.specs.Cdb.{wanted, isListed}
 use Rattle.bridge.specs.Operations.{answeredFor}
 use Rattle.bridge.specs.Bridge.{startStopOutcome, nextOutcome, answerOutcome}
-use Rattle.unit.specs.declared.Unit.{Unit}
 use Rattle.calls.specs.Calls.{Outcome, outcome, StepFunction}
 use Rattle.calls.specs.Examples.{*a, *b, *c, *d, *e, *f, *g19, *g20, *g49, *g50, *h, *i1, *i2, *j1, *j2, *j3, *k, *l, *m, untouched, quiet, Examples}
 

@@ -27,7 +27,7 @@ use Rattle.bridge.specs.declared.StartStopped.{StartStopped}
 use Rattle.bridge.specs.declared.Reply.{Reply}
 use Rattle.bridge.specs.declared.Reply.the-variants.{Good, Bad}
 use Rattle.bridge.specs.declared.Report.{Report}
-use Rattle.calls.specs.Calls.{Call, tick, startStop, answer, accepted, outcome, step, run, history}
+use Rattle.calls.specs.Calls.{Call, tick, startStop, accepted, outcome, step, run, history}
 use Rattle.calls.proofs.Numbers.{clear-none, own-told, start-wants, start-accepted}
 use Rattle.calls.proofs.Hosts.{own-slot}
 use Rattle.calls.proofs.WellFormed.{well-formed-kept}

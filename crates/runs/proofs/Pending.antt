@@ -31,7 +31,7 @@ use Rattle.runs.specs.Serial.{begunIn}
 use Rattle.runs.proofs.Deeds.{Taken, Cases}
 use Rattle.runs.proofs.Known.{Known}
 use Rattle.runs.proofs.Slots.{inside, none-waits, slot-after, Quiet}
-use Rattle.runs.proofs.Same.{endedIn, powers-on, resets-hard, resets-soft}
+use Rattle.runs.proofs.Same.{endedIn}
 
 abbrev pub pendingIn : Slot → List ℕ → List (List ℕ)
 pendingIn Empty cdb = []
