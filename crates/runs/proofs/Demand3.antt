@@ -13,7 +13,7 @@ use Rattle.calls.specs.Calls.{Call, outcome, step, run, history}
 use Rattle.calls.specs.Kinds.{isReset}
 use Rattle.runs.specs.Deeds.{Deed, refuses, deeds, doesA}
 use Rattle.runs.specs.Past.{pastOf}
-use Rattle.runs.specs.Serial.{inPlaceOf, serialAfter, serial, nothingWaits, resetsAtRest, compared, Demand3, gather, refusedIn, otherIn, begunIn, beginnerIn, enderIn, Serialises, SerialRun}
+use Rattle.runs.specs.Serial.{inPlaceOf, serialAfter, serial, nothingWaits, resetsAtRest, compared, Demand3, gather, refusedIn, otherIn, begunIn, beginnerIn, enderIn, Serialises, SerialRun, realPlace, serialPlace}
 use Rattle.runs.proofs.Deeds.{Cases, deedAt, by-deed, reset-call}
 use Rattle.runs.proofs.Known.{Known, known-kept, known-at-first}
 use Rattle.runs.proofs.RunsTo.{RunsTo, runs-nothing, runs-append, gather-append}
@@ -28,7 +28,7 @@ module _ (past : List Deed) (u v : Unit) (known : Known past u) (same : Same u v
   stands : Cases (Stands past u v (known .0) same) u
   stands = record {
     refused = λ c r.
-        nothing past u v (known .0) same (refuses c) u refl (record { none-refused = refl; same-others = refl; beginner = refl; begun = λ k. refl; over = refl }) same;
+        nothing past u v (known .0) same (refuses c) u refl (record { none-refused = refl; same-others = refl; beginner = refl; begun = λ k. refl; place = refl; over = refl }) same;
     aborted = aborts-on past u v (known .0) same;
     begun = λ host cdb t clear wants. begins-on past u v known same host cdb t clear;
     asked = λ host q clear. asks-on past u v known same host q;
@@ -65,6 +65,7 @@ pub record Beside (past : List Deed) (u v : Unit) (cs : List Call) : Type 0 wher
   pub none-refused : gather refusedIn made ≡ []
   pub same-others : gather otherIn made ≡ gather otherIn (deeds (history u cs))
   pub in-order : gather beginnerIn made ≡ gather enderIn (deeds (history u cs))
+  pub in-place : gather serialPlace made ≡ gather realPlace (deeds (history u cs))
   pub over : gather enderIn made ≡ gather enderIn (deeds (history u cs))
   pub balance : (k : ℕ) → pending k past (u .slots) ++ gather (begunIn k) (deeds (history u cs))
       ≡ gather (begunIn k) made ++ pending k (reverseAux (deeds (history u cs)) past) (run u cs .slots)
@@ -86,6 +87,7 @@ beside-next past u v c cs reset known f b =
       none-refused = gather-append refusedIn ds es ∙ rw (f .stand .none-refused, b .none-refused);
       same-others = gather-append otherIn ds es ∙ rw (f .stand .same-others, b .same-others);
       in-order = gather-append beginnerIn ds es ∙ rw (f .stand .beginner, b .in-order);
+      in-place = gather-append serialPlace ds es ∙ rw (f .stand .place, b .in-place);
       over = gather-append enderIn ds es ∙ rw (f .stand .over, b .over);
       balance = λ k.
           chained (pending k past (u .slots)) (begunIn k (deedAt u c)) _ _ _ _ _ _ (by-deed (Balance past u known k) u (balanced past u known k) c reset) (b .balance k) (f .stand .begun k)
@@ -102,6 +104,7 @@ beside past u v known same [] h = record {
   none-refused = refl;
   same-others = refl;
   in-order = refl;
+  in-place = refl;
   over = refl;
   balance = λ k. append-nil (pending k past (u .slots));
 }
@@ -154,6 +157,7 @@ module _ (u : Unit) (cs : List Call) (fine : wellFormed u ≡ true) (rest : noth
     same-others = both .same-others;
     one-each = begun-same;
     in-order = both .in-order;
+    in-place = both .in-place;
     over = both .over;
   })
 

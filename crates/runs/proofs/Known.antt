@@ -108,6 +108,10 @@ is-flush (EpcGoTo c) = refl
 
 -- ---- each case
 
+-- Sending no flush is another stage than flushing.
+pub straight-flushing : {A : Type 0} (n : ℕ) → Straight ≡ Flushing n → A
+straight-flushing n e = let apart : _≡_ {A = ℕ} 0 1 = cc in absurd (omega arith)
+
 -- An operation that sends no flush has no flush due.
 pub straight-no-flush : (unsaved : Bool) (q : Request) → q .stage ≡ Straight → isFlush (dueFrom unsaved q) ≡ false
 straight-no-flush unsaved q e = rw e (last-no-flush (q .target))

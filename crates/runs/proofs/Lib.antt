@@ -10,6 +10,7 @@ pub mod Demand3
 pub mod Since
 pub mod Safe
 pub mod FlushCount
+pub mod Commands
 pub mod HeldSenses
 pub mod Fates
 pub mod Reports

@@ -5,7 +5,6 @@ use mathlib.Core.Bool.{Bool, true, false, cond, true≢false}
 use mathlib.Core.List.{List, [], _∷_, append-nil}
 use mathlib.Core.Logic.{inl, inr}
 use Prim.Native.Nat.{ℕ, zero, suc}
-use native.Mathlib.Omega.{arith}
 use lib.Dec.{eqb}
 use lib.ListN.{set}
 use borrow.Author.Tests.{eq-eqb}
@@ -40,7 +39,7 @@ use Rattle.runs.specs.Deeds.{Deed, begins, sends, goesOn, ends}
 use Rattle.runs.specs.Past.{cdbOf, gets, replies, flushesAnswered, heldAt255}
 use Rattle.runs.specs.Serial.{whole}
 use Rattle.runs.proofs.Deeds.{Taken}
-use Rattle.runs.proofs.Known.{goods, Reached, NotedBy, Known, sent-due, straight-no-flush, last-means}
+use Rattle.runs.proofs.Known.{straight-flushing, goods, Reached, NotedBy, Known, sent-due, straight-no-flush, last-means}
 use Rattle.runs.proofs.RunsTo.{RunsTo}
 use Rattle.runs.proofs.Whole.{Admitted, Ready, ready-begun, ready-flushed, flushed-due, whole-once, whole-twice}
 use Rattle.runs.proofs.Slots.{waiting-same, inside, Quiet, quiet-out}
@@ -143,9 +142,6 @@ helper-is : (slots : List HostSlot) (mark : Bool) (h : Helped slots mark) (host 
     → h .request ≡ q
 helper-is slots mark h host q waits e = waiting-same (h .request) q (sym (h .waits) ∙ ap (slotOf slots) e ∙ waits)
 
-straight-flushing : {A : Type 0} (n : ℕ) → Straight ≡ Flushing n → A
-straight-flushing n e = let apart : _≡_ {A = ℕ} 0 1 = cc in absurd (omega arith)
-
 -- ---- what it has got by then
 
 -- the last flush's good answer
@@ -170,7 +166,7 @@ module _ (past : List Deed) (u v : Unit) (known : Known past u) (same : Same u v
       → Beside (begins host cdb) (withSlot host (Waiting (requestFor t cdb)) (rested u))
   begins-on host cdb t clear r =
       waits-on past u v (known .0) same (begins host cdb) (withSlot host (Waiting (requestFor t cdb)) (rested u)) refl
-      (record { none-refused = refl; same-others = refl; beginner = refl; begun = λ k. refl; over = refl }) host (requestFor t cdb)
+      (record { none-refused = refl; same-others = refl; beginner = refl; begun = λ k. refl; place = refl; over = refl }) host (requestFor t cdb)
       (own-slot (u .slots) host _ (inside u host (known .0) (clear-none (startStopRows u host cdb) clear 1))) refl refl refl
       (mark-beside (u .slots) (u .unsaved) (v .unsaved) host _ other (same .unsaved))
     where
@@ -182,14 +178,14 @@ module _ (past : List Deed) (u v : Unit) (known : Known past u) (same : Same u v
   pub asks-on : (host : ℕ) (q : Request) → slotOf (u .slots) host ≡ Waiting q → Beside (sends host (registersOf (dueFrom (u .unsaved) q))) (nextEffect host u)
   asks-on host q waits r =
       waits-on past u v (known .0) same _ (nextEffect host u) refl
-      (record { none-refused = refl; same-others = refl; beginner = refl; begun = λ k. refl; over = refl }) host q waits refl refl refl (same .unsaved)
+      (record { none-refused = refl; same-others = refl; beginner = refl; begun = λ k. refl; place = refl; over = refl }) host q waits refl refl refl (same .unsaved)
 
   -- A good flush helps: the mark is clear in the real run alone, until the operation ends.
   pub flushes-on : (host : ℕ) (q : Request) → Taken u host q → Beside (goesOn host Good) (flushedWell u host q .unit)
   flushes-on host q taken r =
       let waits = own-slot (u .slots) host (Waiting (flushCounted q)) (inside u host (known .0) (clear-none (answerRows u host) (taken .clear) 0)) in
       waits-on past u v (known .0) same (goesOn host Good) (flushedWell u host q .unit) refl
-      (record { none-refused = refl; same-others = refl; beginner = refl; begun = λ k. refl; over = refl }) host (flushCounted q) waits refl refl refl
+      (record { none-refused = refl; same-others = refl; beginner = refl; begun = λ k. refl; place = refl; over = refl }) host (flushCounted q) waits refl refl refl
       (inr (record {
         saved = refl;
         host = host;
@@ -268,12 +264,12 @@ module _ (past : List Deed) (u v : Unit) (known : Known past u) (same : Same u v
 
     stand-once : (reply : Reply) (report report' : Report) (r : Registers)
         → StandFor past (ends host reply report) (begins host cdb ∷ sends host r ∷ ends host reply report' ∷ [])
-    stand-once reply report report' r = record { none-refused = refl; same-others = refl; beginner = refl; begun = λ k. append-nil _; over = refl }
+    stand-once reply report report' r = record { none-refused = refl; same-others = refl; beginner = refl; begun = λ k. append-nil _; place = refl; over = refl }
 
     stand-twice : (reply : Reply) (report report' : Report) (r s : Registers)
         → StandFor past (ends host reply report)
         (begins host cdb ∷ sends host r ∷ goesOn host Good ∷ sends host s ∷ ends host reply report' ∷ [])
-    stand-twice reply report report' r s = record { none-refused = refl; same-others = refl; beginner = refl; begun = λ k. append-nil _; over = refl }
+    stand-twice reply report report' r s = record { none-refused = refl; same-others = refl; beginner = refl; begun = λ k. append-nil _; place = refl; over = refl }
 
     -- What is waiting in the serial run at the operation's first command, and at the one after a good flush.
     abbrev begun : Unit

@@ -39,7 +39,7 @@ use Rattle.calls.proofs.WellFormed.{run-well-formed}
 use Rattle.calls.specs.Kinds.{isReset}
 use Rattle.runs.specs.Deeds.{Deed, begins, sends, goesOn, ends, does, aborts, refuses, another, deedOf, doesA}
 use Rattle.runs.specs.Past.{cdbOf}
-use Rattle.runs.specs.Serial.{inPlaceOf, gather, refusedIn, otherIn, begunIn, beginnerIn, enderIn}
+use Rattle.runs.specs.Serial.{inPlaceOf, gather, refusedIn, otherIn, begunIn, beginnerIn, enderIn, realPlace, serialPlace}
 use Rattle.runs.proofs.Slots.{empty-waits, none-waits, Quiet, quiet-out}
 use Rattle.runs.proofs.RunsTo.{RunsTo, runs-nothing, runs-on}
 
@@ -110,6 +110,7 @@ pub record StandFor (past : List Deed) (d : Deed) (ds : List Deed) : Type 0 wher
   pub same-others : gather otherIn ds ≡ otherIn d
   pub beginner : gather beginnerIn ds ≡ enderIn d
   pub begun : (k : ℕ) → gather (begunIn k) ds ≡ endedIn k past d
+  pub place : gather serialPlace ds ≡ realPlace d
   pub over : gather enderIn ds ≡ enderIn d
 
 pub record Follows (past : List Deed) (v : Unit) (d : Deed) (u' : Unit) : Type 0 where
@@ -157,7 +158,7 @@ module _ (past : List Deed) (u v : Unit) (fine : wellFormed u ≡ true) (same : 
         v' = v';
         runs = runs;
         same = s (left-fine v v' _ _ (same .fine) runs);
-        stand = record { none-refused = refl; same-others = refl; beginner = refl; begun = λ k. refl; over = refl };
+        stand = record { none-refused = refl; same-others = refl; beginner = refl; begun = λ k. refl; place = refl; over = refl };
       }
 
   -- ---- calls that change the drive alone
@@ -224,7 +225,7 @@ module _ (past : List Deed) (u v : Unit) (fine : wellFormed u ≡ true) (same : 
         same =
             with-drives (restarted (u .drive)) (restarted (v .drive)) (same .records) (λ quiet. (same .at-rest quiet .0, refl))
             (left-fine v (rested v) _ _ (same .fine) runs);
-        stand = record { none-refused = refl; same-others = refl; beginner = refl; begun = λ k. refl; over = refl };
+        stand = record { none-refused = refl; same-others = refl; beginner = refl; begun = λ k. refl; place = refl; over = refl };
       }
 
   -- ---- the medium

@@ -2,7 +2,8 @@
 -- is false. Where demand 3 does not see a wrong program, that is shown on a run, and of the one that refuses all on every run.
 use mathlib.Core.Bool.{Bool, true, false, not, _&&_, true≢false, false≢true}
 use mathlib.Core.Path.{_≡_, refl, sym, ap, _∙_}
-use mathlib.Core.List.{List, [], _∷_}
+use mathlib.Core.List.{List, [], _∷_, _++_}
+use mathlib.Core.Logic.{inl, inr}
 use Prim.Native.Nat.{ℕ, zero, suc}
 use native.Mathlib.Omega.{arith}
 use lib.ListN.{getD, replicate, take, drop}
@@ -13,10 +14,17 @@ use Rattle.drive.specs.declared.Condition.the-variants.{StandbyZ}
 use Rattle.drive.specs.declared.Cause.the-variants.{Command}
 use Rattle.drive.specs.declared.Made.{Made}
 use Rattle.drive.specs.declared.Power.the-variants.{Low}
+use Rattle.epc.specs.declared.Registers.{Registers}
 use Rattle.unit.specs.Units.{noneHeld, isWaiting}
 use Rattle.unit.specs.Calls.{manufactureOutcome}
 use Rattle.unit.specs.declared.Refusal.the-variants.{BadRecord, OwnWaiting}
 use Rattle.unit.specs.declared.Unit.{Unit}
+use Rattle.unit.specs.declared.Target.{Target}
+use Rattle.unit.specs.declared.Target.the-variants.{Stop, Start, GoTo}
+use Rattle.bridge.specs.Operations.{registersOf, lastOf}
+use Rattle.bridge.specs.declared.Due.the-variants.{StandbyImmediate}
+use Rattle.bridge.specs.declared.Wanted.{Wanted}
+use Rattle.bridge.specs.declared.Wanted.the-variants.{Wants, Unlisted}
 use Rattle.bridge.specs.declared.Next.the-variants.{Send, NotSent}
 use Rattle.bridge.specs.declared.Reply.the-variants.{Good, Bad}
 use Rattle.calls.specs.Calls.{Call, setFeatures, tick, read, write, powerOn, hardReset, softReset, startStop, next, answer, requestSense, logPage, Said, plain, accepted, sent, progressed, Outcome, StepFunction, runBy, historyBy, run}
@@ -25,10 +33,11 @@ use Rattle.calls.specs.Numbers.{Numbers}
 use Rattle.runs.specs.Deeds.{Deed, refuses, deedOf, deeds}
 use Rattle.runs.specs.Serial.{serialAfter, serial, nothingWaits, resetsAtRest, Compared, compared, Demand3}
 use Rattle.runs.specs.Past.{pastBy}
-use Rattle.runs.specs.Safe.{latestPoweredOn, latestFlushed, Written, lastGoesOut, NoByteLeftBehind, MarkTells}
+use Rattle.runs.specs.Safe.{latestPoweredOn, latestFlushed, Written, AllSafe, lastGoesOut, NoByteLeftBehind, MarkTells}
 use Rattle.runs.specs.Reports.{OneFate, EndReported, FailureTold}
+use Rattle.runs.specs.Commands.{AskedFor, CommandsSent}
 use Rattle.runs.specs.FlushCount.{FlushCount}
-use Rattle.runs.specs.WrongSteps.{flushesOnce, clearsMark, writesThrough, changesNothing, keepsPower, badFlushSaves, refusesAll, oneForAll, inventsCount, swallows, mutes, forgets, isDue, alwaysActive}
+use Rattle.runs.specs.WrongSteps.{flushesOnce, clearsMark, writesThrough, changesNothing, keepsPower, badFlushSaves, failureStarts, refusesAll, oneForAll, inventsCount, startParks, swallows, mutes, forgets, reportsTwice, dropsAllHeld, isDue, alwaysActive}
 use Rattle.runs.proofs.Computed.{computed}
 
 abbrev stop : ℕ → Call
@@ -104,13 +113,16 @@ never-at latest none [] h (suc j) = none
 never-at latest none (d ∷ past) h zero = not-true _ (and-left (not (latest (d ∷ past))) _ h)
 never-at latest none (d ∷ past) h (suc j) = never-at latest none past (and-right (not (latest (d ∷ past))) _ h) j
 
--- A run after which a flushing operation's last command goes out, with a write i calls ago and no flush sent and answered good since.
+-- A write i calls ago, and no flush sent and answered good since: not every write is safe.
+unsafe-left : (past : List Deed) (i : ℕ) → Written past i → never latestPoweredOn past ≡ true → never latestFlushed (take i past) ≡ true → AllSafe past → ⊥
+unsafe-left past i written powered flushed all =
+    let safe = all i written (λ j before. never-at latestPoweredOn refl past powered j) in
+    true≢false (sym (safe .2) ∙ never-at latestFlushed refl (take i past) flushed (safe .0))
+
+-- A run after which a flushing operation's last command goes out over such a write.
 leaves-bytes : (by : StepFunction) (cs : List Call) (i : ℕ) → let past = pastBy by (manufactureOutcome asked .unit) cs in
     lastGoesOut past ≡ true → Written past i → never latestPoweredOn past ≡ true → never latestFlushed (take i past) ≡ true → NoByteLeftBehind by → ⊥
-leaves-bytes by cs i out written powered flushed holds =
-    let past = pastBy by (manufactureOutcome asked .unit) cs in
-    let safe = holds asked cs .0 out i written (λ j before. never-at latestPoweredOn refl past powered j) in
-    true≢false (sym (safe .2) ∙ never-at latestFlushed refl (take i past) flushed (safe .0))
+leaves-bytes by cs i out written powered flushed holds = unsafe-left _ i written powered flushed (holds asked cs .0 out)
 
 -- Example m's run: the stop goes out right after the write.
 abbrev goesOut : List Call
@@ -120,10 +132,19 @@ pub flushes-once-leaves-bytes : NoByteLeftBehind flushesOnce → ⊥
 unfolding computed manufactureOutcome
 flushes-once-leaves-bytes = leaves-bytes flushesOnce goesOut 1 refl refl refl refl
 
--- What is said over the history sees the one that clears the mark too.
+-- What is said over the history sees the one that clears the mark too: as a go to goes out,
+abbrev toIdleB : Call
+toIdleB = startStop 0 (0x1B ∷ 0 ∷ 0 ∷ 1 ∷ 0x20 ∷ 0 ∷ [])
+
 pub clears-mark-leaves-bytes : NoByteLeftBehind clearsMark → ⊥
 unfolding computed manufactureOutcome
-clears-mark-leaves-bytes = leaves-bytes clearsMark goesOut 1 refl refl refl refl
+clears-mark-leaves-bytes = leaves-bytes clearsMark (toIdleB ∷ next 0 ∷ answer 0 Good ∷ write 1 ∷ next 0 ∷ []) 1 refl refl refl refl
+
+-- and as the stop is answered good.
+pub clears-mark-parks-over-bytes : NoByteLeftBehind clearsMark → ⊥
+unfolding computed manufactureOutcome
+clears-mark-parks-over-bytes holds =
+    unsafe-left (pastBy clearsMark (manufactureOutcome asked .unit) writeBetween) 2 refl refl refl (holds asked writeBetween .1 refl)
 
 -- The flush is sent, then the write is taken, then the flush is answered good, and the stop goes out.
 pub writes-through-leaves-bytes : NoByteLeftBehind writesThrough → ⊥
@@ -135,6 +156,31 @@ pub bad-flush-saves-leaves-bytes : NoByteLeftBehind badFlushSaves → ⊥
 unfolding computed manufactureOutcome
 bad-flush-saves-leaves-bytes =
     leaves-bytes badFlushSaves (stop 0 ∷ stop 1 ∷ next 0 ∷ answer 0 Good ∷ write 2 ∷ next 1 ∷ answer 1 Bad ∷ next 0 ∷ []) 3 refl refl refl refl
+
+-- ---- the commands handed out
+
+abbrev startCdb : List ℕ
+startCdb = 0x1B ∷ 0 ∷ 0 ∷ 0 ∷ 1 ∷ 0 ∷ []
+
+-- E0h is not what a start asks for.
+pub start-parks-fails-commands : CommandsSent startParks → ⊥
+unfolding computed
+start-parks-fails-commands holds = on (holds fresh (startStop 0 startCdb ∷ []) 0 _ refl refl refl)
+  where
+    on : AskedFor startCdb (registersOf StandbyImmediate) → ⊥
+    on (inl flush) = false≢true (flush .0)
+    on (inr (t, wants, last)) = other t (ap isStart wants) (ap (λ (q : Registers). q .command) last)
+      where
+        isStart : Wanted → Bool
+        isStart Unlisted = false
+        isStart (Wants Stop) = false
+        isStart (Wants Start) = true
+        isStart (Wants (GoTo c)) = false
+
+        other : (t : Target) → true ≡ isStart (Wants t) → 0xE0 ≡ registersOf (lastOf t) .command → ⊥
+        other Stop is e = true≢false is
+        other Start is e = omega (arith, e)
+        other (GoTo c) is e = true≢false is
 
 -- ---- failures
 
@@ -152,6 +198,13 @@ pub bad-flush-saves-fails-demand-3 : Demand3 badFlushSaves → ⊥
 unfolding computed
 bad-flush-saves-fails-demand-3 holds =
     false≢true (ap (λ (k : Compared). k .unsaved) (holds fresh (write 1 ∷ stop 0 ∷ next 0 ∷ answer 0 Bad ∷ []) refl refl refl refl))
+
+-- A stopped unit stays stopped through a go to that fails.
+pub failure-starts-fails-demand-3 : Demand3 failureStarts → ⊥
+unfolding computed
+failure-starts-fails-demand-3 holds =
+    let parks = stop 0 ∷ next 0 ∷ answer 0 Good ∷ next 0 ∷ answer 0 Good ∷ [] in
+    false≢true (ap (λ (k : Compared). k .stopped) (holds fresh (parks ++ toIdleB ∷ next 0 ∷ answer 0 Bad ∷ []) refl refl refl refl))
 
 -- ---- "one that changes nothing fails the effects"
 
@@ -251,6 +304,35 @@ pub forgets-fails-failure : FailureTold forgets → ⊥
 unfolding computed
 forgets-fails-failure holds =
     let told = holds fresh 0 stopImmediate (next 0 ∷ []) Bad _ [] (replicate 18 0) refl refl refl refl refl refl refl refl in
+    let shown : _≡_ {A = ℕ} 0x70 0x71 = ap (λ (l : List ℕ). getD l 0 0) told in
+    omega arith
+
+-- An operation that waits on after its end report has another.
+pub reports-twice-fails-fate : OneFate reportsTwice → ⊥
+unfolding computed
+reports-twice-fails-fate holds =
+    let shown : _≡_ {A = ℕ} 2 1 = holds fresh 0 stopImmediate (next 0 ∷ answer 0 Bad ∷ next 0 ∷ answer 0 Bad ∷ []) refl refl .0 in
+    omega arith
+
+-- A held failure stays through all of these.
+abbrev meanwhile : List Call
+meanwhile =
+    -- a start of the host's own that ends well, with IMMED; a stop of its own that fails, without
+    startStop 0 (0x1B ∷ 1 ∷ 0 ∷ 0 ∷ 1 ∷ 0 ∷ []) ∷ next 0 ∷ answer 0 Good
+    ∷ stop 0 ∷ next 0 ∷ answer 0 Bad
+    -- its own REQUEST SENSE refused, with number 1
+    ∷ requestSense 0 []
+    -- another host's failure with IMMED, and that host's REQUEST SENSE
+    ∷ startStop 1 stopImmediate ∷ next 1 ∷ answer 1 Bad
+    ∷ requestSense 1 (replicate 18 0)
+    ∷ write 2 ∷ tick
+    ∷ []
+
+-- Host 1's REQUEST SENSE took host 0's failure with it.
+pub drops-all-held-fails-failure : FailureTold dropsAllHeld → ⊥
+unfolding computed
+drops-all-held-fails-failure holds =
+    let told = holds fresh 0 stopImmediate (next 0 ∷ []) Bad _ meanwhile (replicate 18 0) refl refl refl refl refl refl refl refl in
     let shown : _≡_ {A = ℕ} 0x70 0x71 = ap (λ (l : List ℕ). getD l 0 0) told in
     omega arith
 

@@ -3,6 +3,7 @@ pub mod Past
 pub mod Serial
 pub mod Safe
 pub mod FlushCount
+pub mod Commands
 pub mod Reports
 pub mod Idle
 pub mod WrongSteps

@@ -146,6 +146,31 @@ enderIn (does c) = []
 enderIn (aborts c) = []
 enderIn (refuses c) = []
 
+-- A place in a run: another call, as it was, or an operation of this host.
+pub data Place : Type 0 where
+  call : Deed → Place
+  operation : ℕ → Place
+
+-- In the real run an operation's place is that of its last drive answer,
+abbrev pub realPlace : Deed → List Place
+realPlace (begins host cdb) = []
+realPlace (sends host q) = []
+realPlace (goesOn host reply) = []
+realPlace (ends host reply report) = operation host ∷ []
+realPlace (does c) = call (does c) ∷ []
+realPlace (aborts c) = call (aborts c) ∷ []
+realPlace (refuses c) = []
+
+-- in the serial run that of its START STOP UNIT.
+abbrev pub serialPlace : Deed → List Place
+serialPlace (begins host cdb) = operation host ∷ []
+serialPlace (sends host q) = []
+serialPlace (goesOn host reply) = []
+serialPlace (ends host reply report) = []
+serialPlace (does c) = call (does c) ∷ []
+serialPlace (aborts c) = call (aborts c) ∷ []
+serialPlace (refuses c) = []
+
 -- The deeds of a real run beside those of its serial run.
 pub record Serialises (real serially : List Deed) : Type 0 where
   -- No call of the serial list is refused, but for the aborts.
@@ -156,6 +181,8 @@ pub record Serialises (real serially : List Deed) : Type 0 where
   pub one-each : (host : ℕ) → gather (begunIn host) serially ≡ gather (begunIn host) real
   -- and all hosts together in the order of their last answers. (A host has one operation at a time, so this says which pair stands where.)
   pub in-order : gather beginnerIn serially ≡ gather enderIn real
+  -- Among the other calls each stands at the place of its last drive answer.
+  pub in-place : gather serialPlace serially ≡ gather realPlace real
   -- Each is run to its end.
   pub over : gather enderIn serially ≡ gather enderIn real
 

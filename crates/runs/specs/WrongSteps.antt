@@ -2,8 +2,9 @@
 -- but for its own slip.
 use mathlib.Core.Bool.{Bool, true, false, not, _&&_, cond}
 use lib.Dec.{eqb}
+use lib.ListN.{replicate}
 use Rattle.drive.specs.declared.Power.the-variants.{Active}
-use Rattle.unit.specs.Units.{slotOf, unitOf, withMarks, withOut}
+use Rattle.unit.specs.Units.{noneHeld, slotOf, unitOf, withMarks, withOut}
 use Rattle.unit.specs.declared.Refusal.{Refusal}
 use Rattle.unit.specs.declared.Refusal.the-variants.{BadRecord, OwnWaiting}
 use Rattle.unit.specs.declared.SenseDue.{SenseDue}
@@ -14,12 +15,13 @@ use Rattle.unit.specs.declared.Out.{Out}
 use Rattle.unit.specs.declared.Out.the-variants.{NoneOut, OutFor}
 use Rattle.unit.specs.declared.Answer.the-variants.{Refused}
 use Rattle.unit.specs.declared.Unit.{Unit}
-use Rattle.bridge.specs.Operations.{flushesOf, dueFrom, isFlush, entering}
+use Rattle.bridge.specs.Operations.{registersOf, flushesOf, dueFrom, isFlush, entering}
+use Rattle.bridge.specs.declared.Due.the-variants.{StandbyImmediate}
 use Rattle.bridge.specs.declared.Acceptance.the-variants.{GoodDue, Pending, NotAccepted}
-use Rattle.bridge.specs.declared.Next.the-variants.{NotSent}
+use Rattle.bridge.specs.declared.Next.the-variants.{Send, NotSent}
 use Rattle.bridge.specs.declared.Progress.the-variants.{More, Ended, NotTaken}
 use Rattle.calls.specs.Calls.{Call, setFeatures, tick, read, write, powerOn, hardReset, softReset, startStop, next, answer, requestSense, logPage, Said, plain, accepted, sent, progressed, Outcome, outcome, StepFunction}
-use Rattle.calls.specs.Kinds.{isWrite}
+use Rattle.calls.specs.Kinds.{isWrite, isSenseOf}
 use Rattle.calls.specs.Table.{verdictIn, isClear}
 use Rattle.calls.specs.Numbers.{lent}
 use Rattle.runs.specs.Serial.{nothingWaits}
@@ -76,6 +78,17 @@ writesThrough u c =
     let o = outcome (withOut NoneOut u) c in
     cond (isWrite c) (leaving (withOut (u .out) (o .unit)) o) (outcome u c)
 
+-- One that parks the unit on a start: STANDBY IMMEDIATE is handed out for the verify.
+abbrev pub parking : Said → Said
+parking (plain a) = plain a
+parking (accepted a) = accepted a
+parking (sent (Send q)) = sent (Send (cond (eqb (q .command) 0x40) (registersOf StandbyImmediate) q))
+parking (sent (NotSent r)) = sent (NotSent r)
+parking (progressed p) = progressed p
+
+abbrev pub startParks : StepFunction
+startParks u c = saying (parking (outcome u c .said)) (outcome u c)
+
 -- "one that changes nothing": it says what the layer says.
 abbrev pub changesNothing : StepFunction
 changesNothing u c = leaving u (outcome u c)
@@ -112,6 +125,10 @@ flushOut u (OutFor host) = flushDue (u .unsaved) (slotOf (u .slots) host)
 abbrev pub badFlushSaves : StepFunction
 badFlushSaves u c =
     cond (isFailure (outcome u c .said) && flushOut u (u .out)) (leaving (marked false (outcome u c .unit)) (outcome u c)) (outcome u c)
+
+-- "Clearing the stopped mark when a go to failed", and whenever another operation did.
+abbrev pub failureStarts : StepFunction
+failureStarts u c = cond (isFailure (outcome u c .said)) (leaving (withMarks false (u .unsaved) (outcome u c .unit)) (outcome u c)) (outcome u c)
 
 -- ---- refusals
 
@@ -183,11 +200,26 @@ abbrev pub mutes : StepFunction
 mutes u c = saying (muted (outcome u c .said)) (outcome u c)
 
 -- One that holds no failure, though it reports it as held.
+abbrev pub heldAs : Unit → Unit → Unit
+heldAs before u = unitOf (u .drive) (u .stopped) (u .unsaved) (u .slots) (before .held) (u .out)
+
 abbrev pub forgets : StepFunction
-forgets u c =
-    cond (isFailure (outcome u c .said))
-    (leaving (unitOf (outcome u c .unit .drive) (outcome u c .unit .stopped) (outcome u c .unit .unsaved) (outcome u c .unit .slots) (u .held) (outcome u c .unit .out))
-    (outcome u c)) (outcome u c)
+forgets u c = cond (isFailure (outcome u c .said)) (leaving (heldAs u (outcome u c .unit)) (outcome u c)) (outcome u c)
+
+-- One that reports twice: it gives a failure's report, and lets the operation wait on.
+abbrev pub waitingOn : Unit → Unit → Unit
+waitingOn before u = unitOf (u .drive) (u .stopped) (u .unsaved) (before .slots) (u .held) (u .out)
+
+abbrev pub reportsTwice : StepFunction
+reportsTwice u c = cond (isFailure (outcome u c .said)) (leaving (waitingOn u (outcome u c .unit)) (outcome u c)) (outcome u c)
+
+-- One that drops every host's held sense once any host asks for its own.
+abbrev pub noneHeldIn : Unit → Unit
+noneHeldIn u = unitOf (u .drive) (u .stopped) (u .unsaved) (u .slots) (replicate 4 noneHeld) (u .out)
+
+abbrev pub dropsAllHeld : StepFunction
+dropsAllHeld u c =
+    cond (isSenseOf (λ host. true) c && isClear (verdictIn (outcome u c .said))) (leaving (noneHeldIn (outcome u c .unit)) (outcome u c)) (outcome u c)
 
 -- One that "always reports Active": the bytes are those of an Active unit. The condition is in no other buffer, so no other call is touched.
 abbrev pub alwaysActive : StepFunction
