@@ -19,6 +19,8 @@ use Rattle.bridge.specs.Operations.{registersOf, flushesOf, dueFrom, isFlush, e
 use Rattle.bridge.specs.declared.Due.the-variants.{StandbyImmediate}
 use Rattle.bridge.specs.declared.Acceptance.the-variants.{GoodDue, Pending, NotAccepted}
 use Rattle.bridge.specs.declared.Next.the-variants.{Send, NotSent}
+use Rattle.bridge.specs.declared.Report.{Report}
+use Rattle.bridge.specs.declared.Progress.{Progress}
 use Rattle.bridge.specs.declared.Progress.the-variants.{More, Ended, NotTaken}
 use Rattle.calls.specs.Calls.{Call, setFeatures, tick, read, write, powerOn, hardReset, softReset, startStop, next, answer, requestSense, logPage, Said, plain, accepted, sent, progressed, Outcome, outcome, StepFunction}
 use Rattle.calls.specs.Kinds.{isWrite, isSenseOf}
@@ -108,9 +110,13 @@ isFailure (progressed More) = false
 isFailure (progressed (Ended report)) = isDue (report .sense)
 isFailure (progressed (NotTaken r)) = false
 
+-- A failure leaves another record, made from the one before the call and the one that it should leave.
+abbrev pub onFailure : (Unit → Unit → Unit) → StepFunction
+onFailure change u c = cond (isFailure (outcome u c .said)) (leaving (change u (outcome u c .unit)) (outcome u c)) (outcome u c)
+
 -- Against "Bad flush: Active" and "Bad last command: Active": the power condition stays.
 abbrev pub keepsPower : StepFunction
-keepsPower u c = cond (isFailure (outcome u c .said)) (leaving (entering (u .drive .power) (outcome u c .unit)) (outcome u c)) (outcome u c)
+keepsPower = onFailure (λ before u. entering (before .drive .power) u)
 
 -- The command that is out is a flush.
 abbrev pub flushDue : Bool → Slot → Bool
@@ -128,7 +134,15 @@ badFlushSaves u c =
 
 -- "Clearing the stopped mark when a go to failed", and whenever another operation did.
 abbrev pub failureStarts : StepFunction
-failureStarts u c = cond (isFailure (outcome u c .said)) (leaving (withMarks false (u .unsaved) (outcome u c .unit)) (outcome u c)) (outcome u c)
+failureStarts = onFailure (λ before u. withMarks false (u .unsaved) u)
+
+-- One that holds no failure, though it reports it as held.
+abbrev pub forgets : StepFunction
+forgets = onFailure (λ before u. unitOf (u .drive) (u .stopped) (u .unsaved) (u .slots) (before .held) (u .out))
+
+-- One that reports twice: it gives a failure's report, and lets the operation wait on.
+abbrev pub reportsTwice : StepFunction
+reportsTwice = onFailure (λ before u. unitOf (u .drive) (u .stopped) (u .unsaved) (before .slots) (u .held) (u .out))
 
 -- ---- refusals
 
@@ -161,57 +175,29 @@ oneForAll u c = cond (isAcceptance (outcome u c .said) && not (nothingWaits u)) 
 
 -- ---- what is told
 
--- "one that invents the flush count": an end report always says 1.
-abbrev pub recounted : Said → Said
-recounted (plain a) = plain a
-recounted (accepted a) = accepted a
-recounted (sent n) = sent n
-recounted (progressed More) = progressed More
-recounted (progressed (Ended report)) =
-    progressed (Ended (record { status = report .status; sense = report .sense; flushes = 1 }))
-recounted (progressed (NotTaken r)) = progressed (NotTaken r)
+-- Something else is said where an end report is due.
+abbrev pub atEnd : (Report → Progress) → Said → Said
+atEnd say (plain a) = plain a
+atEnd say (accepted a) = accepted a
+atEnd say (sent n) = sent n
+atEnd say (progressed More) = progressed More
+atEnd say (progressed (Ended report)) = progressed (say report)
+atEnd say (progressed (NotTaken r)) = progressed (NotTaken r)
 
+abbrev pub reporting : (Report → Progress) → StepFunction
+reporting say u c = saying (atEnd say (outcome u c .said)) (outcome u c)
+
+-- "one that invents the flush count": an end report always says 1.
 abbrev pub inventsCount : StepFunction
-inventsCount u c = saying (recounted (outcome u c .said)) (outcome u c)
+inventsCount = reporting (λ report. Ended (record { status = report .status; sense = report .sense; flushes = 1 }))
 
 -- One that swallows end reports: it says that more is to come where an operation is over.
-abbrev pub swallowed : Said → Said
-swallowed (plain a) = plain a
-swallowed (accepted a) = accepted a
-swallowed (sent n) = sent n
-swallowed (progressed More) = progressed More
-swallowed (progressed (Ended report)) = progressed More
-swallowed (progressed (NotTaken r)) = progressed (NotTaken r)
-
 abbrev pub swallows : StepFunction
-swallows u c = saying (swallowed (outcome u c .said)) (outcome u c)
+swallows = reporting (λ report. More)
 
 -- One that ends a failure as if it had gone well: its report has no sense.
-abbrev pub muted : Said → Said
-muted (plain a) = plain a
-muted (accepted a) = accepted a
-muted (sent n) = sent n
-muted (progressed More) = progressed More
-muted (progressed (Ended report)) =
-    progressed (Ended (record { status = report .status; sense = NoSense; flushes = report .flushes }))
-muted (progressed (NotTaken r)) = progressed (NotTaken r)
-
 abbrev pub mutes : StepFunction
-mutes u c = saying (muted (outcome u c .said)) (outcome u c)
-
--- One that holds no failure, though it reports it as held.
-abbrev pub heldAs : Unit → Unit → Unit
-heldAs before u = unitOf (u .drive) (u .stopped) (u .unsaved) (u .slots) (before .held) (u .out)
-
-abbrev pub forgets : StepFunction
-forgets u c = cond (isFailure (outcome u c .said)) (leaving (heldAs u (outcome u c .unit)) (outcome u c)) (outcome u c)
-
--- One that reports twice: it gives a failure's report, and lets the operation wait on.
-abbrev pub waitingOn : Unit → Unit → Unit
-waitingOn before u = unitOf (u .drive) (u .stopped) (u .unsaved) (before .slots) (u .held) (u .out)
-
-abbrev pub reportsTwice : StepFunction
-reportsTwice u c = cond (isFailure (outcome u c .said)) (leaving (waitingOn u (outcome u c .unit)) (outcome u c)) (outcome u c)
+mutes = reporting (λ report. Ended (record { status = report .status; sense = NoSense; flushes = report .flushes }))
 
 -- One that drops every host's held sense once any host asks for its own.
 abbrev pub noneHeldIn : Unit → Unit
