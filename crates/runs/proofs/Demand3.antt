@@ -1,4 +1,4 @@
--- Demand 3: call by call the serial record goes beside the real one (Same, Over); where nothing waits at the end, all that is compared is the same.
+-- Demand 3: call by call the serial record goes beside the real one (Same, Operations); where nothing waits at the end, all that is compared is the same.
 -- The serial list's own deeds are gathered on the way.
 use mathlib.Core.Path.{_≡_, refl, sym, ap, _∙_}
 use mathlib.Core.Bool.{true, false, not, _||_}
@@ -20,7 +20,7 @@ use Rattle.runs.proofs.RunsTo.{RunsTo, runs-nothing, runs-append, gathe
 use Rattle.runs.proofs.Same.{Same, mark-at-rest, Stands, Follows, aborts-on, epc-on, ticks-on, reads-on, writes-on, powers-on, resets-hard, resets-soft, tells-on, logs-on, nothing}
 use Rattle.runs.proofs.Pending.{pending, Balance, balanced}
 use Rattle.runs.proofs.Slots.{nothing-waits, Quiet}
-use Rattle.runs.proofs.Over.{begins-on, asks-on, flushes-on, flush-fails-on, last-on}
+use Rattle.runs.proofs.Operations.{begins-on, asks-on, flushes-on, flush-fails-on, last-on}
 
 -- ---- one call
 

@@ -4,7 +4,7 @@ pub mod Known
 pub mod RunsTo
 pub mod Whole
 pub mod Same
-pub mod Over
+pub mod Operations
 pub mod Pending
 pub mod Demand3
 pub mod Since

@@ -1,6 +1,5 @@
--- No byte left behind: the unsaved mark says whether every write is safe. An accepted write sets it and is not safe yet, a good flush clears it and
--- makes all safe, a power-on clears it and leaves no write since, and every other call leaves the mark and each write as they were. And the last
--- command of a flushing operation is due only with the mark clear.
+-- The unsaved mark says whether every write is safe: a write sets it, a good flush or a power-on clears it, every other call leaves it and each write
+-- as they were. And the last command of a flushing operation is due only with the mark clear.
 use mathlib.Core.Path.{_≡_, refl, sym, _∙_}
 use mathlib.Core.Bool.{Bool, true, false, _||_, cond, and-false, or-false, or-true, true≢false, false≢true}
 use mathlib.Core.List.{List, [], _∷_}

@@ -1,6 +1,6 @@
 -- Demand 3, one call at a time: beside the real record u stands the serial one v, in which nothing ever waits. Settings, stopped mark and held senses
--- are always the same; condition and idle count whenever nothing waits in u, for an operation's last answer sets both by itself. The unsaved mark is the
--- same too, but that a waiting operation's good flush may have cleared it in u alone; when that operation ends, its flush is run in v.
+-- are always the same, condition and idle count whenever nothing waits in u; the unsaved mark too, but that a waiting operation's good flush may have
+-- cleared it in u alone, until that operation ends.
 use mathlib.Core.Path.{_≡_, refl, sym, ap, _∙_}
 use mathlib.Core.Bool.{Bool, true, false, cond, false≢true}
 use mathlib.Core.List.{List, [], _∷_}
