@@ -40,9 +40,9 @@ ends-at-rest = refl
 
 -- ---- what it says
 
-pub serial-run : serial (history noon callsMade) ≡ serially
+pub serial-list : serial (history noon callsMade) ≡ serially
 unfolding computed
-serial-run = refl
+serial-list = refl
 
 pub real-end : compared (run noon callsMade) ≡ evening
 unfolding computed

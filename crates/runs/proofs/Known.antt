@@ -79,7 +79,7 @@ NotedBy past host q = Noted (cdbOf host past) (flushesAnswered host past) (repli
 abbrev pub Operations : List Deed → List HostSlot → Type 0
 Operations past slots = (host : ℕ) (q : Request) → slotOf slots host ≡ Waiting q → NotedBy past host q
 
--- The command that is out is the one sent last.
+-- Of a command that is out the past tells whether it is a flush.
 abbrev pub CommandOut : List Deed → List HostSlot → Bool → Out → Type 0
 CommandOut past slots unsaved out = (host : ℕ) (q : Request) → out ≡ OutFor host → slotOf slots host ≡ Waiting q
     → flushSent host past ≡ isFlush (dueFrom unsaved q)

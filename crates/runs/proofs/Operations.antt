@@ -74,10 +74,10 @@ both-held u w x y host true f e = record {
 both-held u w x y host false f e = e
 
 -- The last answer, by whether it counts as good.
-abbrev pub lastBy : Bool → Unit → ℕ → Request → Replied
+abbrev lastBy : Bool → Unit → ℕ → Request → Replied
 lastBy good u host q = cond good (succeeded u host q) (failed u host q CommandSequence (flushesOf (q .stage)))
 
-abbrev pub lastReport : Bool → Request → Report
+abbrev lastReport : Bool → Request → Report
 lastReport good q = cond good (reportGood (q .immed) (flushesOf (q .stage))) (reportFailed (q .immed) CommandSequence (flushesOf (q .stage)))
 
 last-report : (good : Bool) (u : Unit) (host : ℕ) (q : Request) → lastBy good u host q .answer ≡ Ended (lastReport good q)
@@ -101,7 +101,7 @@ module _ (u v w : Unit) (host : ℕ) (q p : Request) (same : Same u v) (ready : 
   held : w .held ≡ u .held
   held = ready .held ∙ same .held
 
-  pub both-failed : (n m : ℕ) → BothEnded u w (failed u host q CommandSequence n .unit) (failed (nextEffect host w) host p CommandSequence m .unit) host
+  both-failed : (n m : ℕ) → BothEnded u w (failed u host q CommandSequence n .unit) (failed (nextEffect host w) host p CommandSequence m .unit) host
   both-failed n m = rw (ready .immediate) (both-held u w _ _ host (q .immed) CommandSequence (record {
     records = records;
     power = refl;
@@ -127,7 +127,7 @@ module _ (u v w : Unit) (host : ℕ) (q p : Request) (same : Same u v) (ready : 
     mark' = refl;
   }
 
-  pub both-last : (good : Bool) → BothEnded u w (lastBy good u host q .unit) (lastBy good (nextEffect host w) host p .unit) host
+  both-last : (good : Bool) → BothEnded u w (lastBy good u host q .unit) (lastBy good (nextEffect host w) host p .unit) host
   both-last true = both-succeeded
   both-last false = both-failed (flushesOf (q .stage)) (flushesOf (p .stage))
 
@@ -157,13 +157,13 @@ begins-at-zero (GoTo c) true m e = straight-flushing m e
 begins-at-zero (GoTo c) false m e = refl
 
 module _ (past : List Deed) (u v : Unit) (known : Known past u) (same : Same u v) where
-  abbrev Beside : Deed → Unit → Type 0
-  Beside = Stands past u v (known .0) same
+  abbrev Here : Deed → Unit → Type 0
+  Here = Stands past u v (known .0) same
 
   -- ---- before the end
 
   pub begins-on : (host : ℕ) (cdb : List ℕ) (t : Target) → lowest (startStopRows u host cdb) ≡ Clear
-      → Beside (begins host cdb) (withSlot host (Waiting (requestFor t cdb)) (rested u))
+      → Here (begins host cdb) (withSlot host (Waiting (requestFor t cdb)) (rested u))
   begins-on host cdb t clear r =
       waits-on past u v (known .0) same (begins host cdb) (withSlot host (Waiting (requestFor t cdb)) (rested u)) refl
       (record { none-refused = refl; same-others = refl; beginner = refl; begun = λ k. refl; place = refl; over = refl }) host (requestFor t cdb)
@@ -175,13 +175,13 @@ module _ (past : List Deed) (u v : Unit) (known : Known past u) (same : Same u v
       other h e =
           true≢false (sym (ap isWaiting (sym (ap (slotOf (u .slots)) e) ∙ h .waits)) ∙ clear-none (startStopRows u host cdb) clear 4)
 
-  pub asks-on : (host : ℕ) (q : Request) → slotOf (u .slots) host ≡ Waiting q → Beside (sends host (registersOf (dueFrom (u .unsaved) q))) (nextEffect host u)
+  pub asks-on : (host : ℕ) (q : Request) → slotOf (u .slots) host ≡ Waiting q → Here (sends host (registersOf (dueFrom (u .unsaved) q))) (nextEffect host u)
   asks-on host q waits r =
       waits-on past u v (known .0) same _ (nextEffect host u) refl
       (record { none-refused = refl; same-others = refl; beginner = refl; begun = λ k. refl; place = refl; over = refl }) host q waits refl refl refl (same .unsaved)
 
   -- A good flush helps: the mark is clear in the real run alone, until the operation ends.
-  pub flushes-on : (host : ℕ) (q : Request) → Taken u host q → Beside (goesOn host Good) (flushedWell u host q .unit)
+  pub flushes-on : (host : ℕ) (q : Request) → Taken u host q → Here (goesOn host Good) (flushedWell u host q .unit)
   flushes-on host q taken r =
       let waits = own-slot (u .slots) host (Waiting (flushCounted q)) (inside u host (known .0) (clear-none (answerRows u host) (taken .clear) 0)) in
       waits-on past u v (known .0) same (goesOn host Good) (flushedWell u host q .unit) refl
@@ -280,7 +280,7 @@ module _ (past : List Deed) (u v : Unit) (known : Known past u) (same : Same u v
 
     -- A bad flush: the first one in the serial run.
     pub flush-fails-on : isFlush (dueFrom (u .unsaved) q) ≡ true → (n : ℕ) (report : Report)
-        → Beside (ends host Bad report) (failed u host q CommandSequence n .unit)
+        → Here (ends host Bad report) (failed u host q CommandSequence n .unit)
     flush-fails-on f n report r = on (first .stage) refl (noted .reached)
       where
         other : (h : Helped (u .slots) (u .unsaved)) → h .request ≡ q → ⊥
@@ -300,7 +300,7 @@ module _ (past : List Deed) (u v : Unit) (known : Known past u) (same : Same u v
 
     -- The last command, after no flush or after one.
     pub last-on : isFlush (dueFrom (u .unsaved) q) ≡ false → (reply : Reply) (good : Bool) → countsAsGood (q .target) reply ≡ good → (report : Report)
-        → Beside (ends host reply report) (lastBy good u host q .unit)
+        → Here (ends host reply report) (lastBy good u host q .unit)
     last-on f reply good g report r = on (first .stage) refl (noted .reached)
       where
         on : (s : Stage) → first .stage ≡ s → Reached s (q .stage) (flushesAnswered host past) (replies host past)

@@ -32,6 +32,13 @@ pub no-flush-outside : (lastGoesOut (pastOf fresh withoutFlush) ≡ false)
 unfolding computed
 no-flush-outside = (refl, refl, refl)
 
+-- A go to with NO_FLUSH.
+pub no-flush-goes-to :
+    let goTo = write 1 ∷ startStop 0 (0x1B ∷ 0x00 ∷ 0x00 ∷ 0x00 ∷ 0x34 ∷ 0x00 ∷ []) ∷ next 0 ∷ answer 0 Good ∷ [] in
+    (run fresh goTo .drive .power ≡ Low StandbyZ Command) × (run fresh goTo .unsaved ≡ true)
+unfolding computed
+no-flush-goes-to = (refl, refl)
+
 -- A go to as an EPC subcommand.
 pub go-to-parks : (run fresh (write 1 ∷ epc 0x00 0x1 ∷ []) .drive .power ≡ Low StandbyZ Command)
     × (run fresh (write 1 ∷ epc 0x00 0x1 ∷ []) .unsaved ≡ true)
@@ -46,7 +53,7 @@ timer-parks = (refl, refl)
 
 -- ---- resets
 
--- A power-on loses what was unsaved, and the mark with it; no flush was answered.
+-- A power-on loses what was unsaved, and the mark with it; it counts as no flush.
 pub power-on-loses : (run fresh (write 1 ∷ powerOn ∷ []) .unsaved ≡ false) × (latestFlushed (pastOf fresh (write 1 ∷ powerOn ∷ [])) ≡ false)
 unfolding computed
 power-on-loses = (refl, refl)

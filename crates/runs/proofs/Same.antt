@@ -95,7 +95,7 @@ drive-same d e r p i =
 
 -- ---- what stands in the serial run for one call of the real one
 
--- The deeds of the calls that stand for a deed: none is refused; the same other call, as it was; one START STOP UNIT for a last answer, with its CDB.
+-- The CDB of this host's operation that ends with the deed.
 abbrev pub endedIn : ℕ → List Deed → Deed → List (List ℕ)
 endedIn k past (begins host cdb) = []
 endedIn k past (sends host q) = []
@@ -105,6 +105,7 @@ endedIn k past (does c) = []
 endedIn k past (aborts c) = []
 endedIn k past (refuses c) = []
 
+-- The deeds of the calls that stand for a deed: none is refused; the same other call, as it was; one START STOP UNIT for a last answer, with its CDB.
 pub record StandFor (past : List Deed) (d : Deed) (ds : List Deed) : Type 0 where
   pub none-refused : gather refusedIn ds ≡ []
   pub same-others : gather otherIn ds ≡ otherIn d
@@ -122,7 +123,7 @@ pub record Follows (past : List Deed) (v : Unit) (d : Deed) (u' : Unit) : Type 0
 
 -- ---- a call that is no part of an operation, made on the serial record too
 
-pub accepted-here : (v : Unit) (c : Call) → ((said : Said) → deedOf c said ≡ another c (verdictIn said)) → lowest (ownRows v c) ≡ Clear
+accepted-here : (v : Unit) (c : Call) → ((said : Said) → deedOf c said ≡ another c (verdictIn said)) → lowest (ownRows v c) ≡ Clear
     → RunsTo v (c ∷ []) (does c ∷ []) (effect v c)
 accepted-here v c other clear =
     runs-on v (effect v c) (effect v c) c (does c) [] [] (other (outcome v c .said) ∙ ap (another c) (own-told v c ∙ clear)) (own-effect v c clear .0)

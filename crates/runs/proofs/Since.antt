@@ -27,7 +27,8 @@ use Rattle.runs.specs.Safe.{Written}
 use Rattle.runs.proofs.Deeds.{Cases}
 use Rattle.runs.proofs.Slots.{out-same, none-out-for}
 
--- A host's command that is out was sent after every write.
+-- Among the calls since any write, the command of a host that is out reads as a flush or not just as over the whole past; so a flush that is out was
+-- sent after every write.
 abbrev pub SentSince : List Deed → Out → Type 0
 SentSince past out = (k : ℕ) → out ≡ OutFor k → (i : ℕ) → Written past i → flushSent k (take i past) ≡ flushSent k past
 

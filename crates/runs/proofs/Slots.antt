@@ -47,7 +47,7 @@ none-out-for o k none e = absurd (true≢false (sym (ap isOut e) ∙ none))
 pub inside : (u : Unit) (host : ℕ) → wellFormed u ≡ true → ltb 3 host ≡ false → host < length (u .slots)
 inside u host fine h = omega (arith, unit-fine u .0 fine .slots, ltb-false 3 host h)
 
--- After a slot is set, an operation that waits is the one set, if it is this host's, or another host's as before.
+-- After a host's slot is set, host k's is the one set if k is that host, else as before.
 pub slot-after : (slots : List HostSlot) (host k : ℕ) (s : Slot) → host < length slots
     → slotOf (set slots host (record { slot = s })) k ≡ cond (eqb host k) s (slotOf slots k)
 slot-after slots host k s h = on (eqb host k) refl

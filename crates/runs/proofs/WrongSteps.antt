@@ -28,20 +28,21 @@ use Rattle.bridge.specs.declared.Wanted.the-variants.{Wants, Unlisted}
 use Rattle.bridge.specs.declared.Next.the-variants.{Send, NotSent}
 use Rattle.bridge.specs.declared.Reply.the-variants.{Good, Bad}
 use Rattle.calls.specs.Calls.{Call, setFeatures, tick, read, write, powerOn, hardReset, softReset, startStop, next, answer, requestSense, logPage, Said, plain, accepted, sent, progressed, Outcome, StepFunction, runBy, historyBy, run}
-use Rattle.calls.specs.Examples.{*g20, *l, *m, off, makes, fresh, quiet, epc, Examples}
+use Rattle.calls.specs.Examples.{*g20, *l, *m, off, makes, fresh, idled, quiet, epc, Examples}
 use Rattle.calls.specs.Numbers.{Numbers}
 use Rattle.runs.specs.Deeds.{Deed, refuses, deedOf, deeds}
 use Rattle.runs.specs.Serial.{serialAfter, serial, nothingWaits, resetsAtRest, Compared, compared, Demand3}
 use Rattle.runs.specs.Past.{pastBy}
 use Rattle.runs.specs.Safe.{latestPoweredOn, latestFlushed, Written, AllSafe, lastGoesOut, NoByteLeftBehind, MarkTells}
 use Rattle.runs.specs.Reports.{OneFate, EndReported, FailureTold}
+use Rattle.runs.specs.Idle.{IdleRestarts}
 use Rattle.runs.specs.Commands.{AskedFor, CommandsSent}
 use Rattle.runs.specs.FlushCount.{FlushCount}
 use Rattle.runs.specs.WrongSteps.{flushesOnce, clearsMark, writesThrough, changesNothing, keepsPower, badFlushSaves, failureStarts, refusesAll, oneForAll, inventsCount, startParks, swallows, mutes, forgets, reportsTwice, dropsAllHeld, isDue, alwaysActive}
 use Rattle.runs.proofs.Computed.{computed}
 
-abbrev stop : ℕ → Call
-stop host = startStop host (0x1B ∷ 0 ∷ 0 ∷ 0 ∷ 0 ∷ 0 ∷ [])
+abbrev stops : ℕ → Call
+stops host = startStop host (0x1B ∷ 0 ∷ 0 ∷ 0 ∷ 0 ∷ 0 ∷ [])
 
 -- A new unit after a stop that went well: parked, with nothing unsaved and nothing held.
 abbrev parked : Compared
@@ -78,7 +79,7 @@ flushes-once-fails-m holds = let shown : _≡_ {A = ℕ} 0xE0 0xE7 = ap commandI
 
 -- Example m's run, up to the end of the stop.
 abbrev writeBetween : List Call
-writeBetween = stop 0 ∷ next 0 ∷ answer 0 Good ∷ write 1 ∷ next 0 ∷ answer 0 Good ∷ []
+writeBetween = stops 0 ∷ next 0 ∷ answer 0 Good ∷ write 1 ∷ next 0 ∷ answer 0 Good ∷ []
 
 -- It stops with the write unsaved; in the serial run the write comes before the stop's flush.
 pub flushes-once-fails-demand-3 : Demand3 flushesOnce → ⊥
@@ -98,9 +99,9 @@ clears-mark-agrees = (refl, refl, refl, refl)
 
 -- ---- no byte left behind
 
--- The new unit, from its manufacture.
-abbrev asked : List Made
-asked = replicate 5 (makes off)
+-- What the maker asks for of the new unit.
+abbrev ordered : List Made
+ordered = replicate 5 (makes off)
 
 -- At no place of the past does the test hold of the latest call.
 abbrev never : (List Deed → Bool) → List Deed → Bool
@@ -120,42 +121,42 @@ unsafe-left past i written powered flushed all =
     true≢false (sym (safe .2) ∙ never-at latestFlushed refl (take i past) flushed (safe .0))
 
 -- A run after which a flushing operation's last command goes out over such a write.
-leaves-bytes : (by : StepFunction) (cs : List Call) (i : ℕ) → let past = pastBy by (manufactureOutcome asked .unit) cs in
+leaves-bytes : (by : StepFunction) (cs : List Call) (i : ℕ) → let past = pastBy by (manufactureOutcome ordered .unit) cs in
     lastGoesOut past ≡ true → Written past i → never latestPoweredOn past ≡ true → never latestFlushed (take i past) ≡ true → NoByteLeftBehind by → ⊥
-leaves-bytes by cs i out written powered flushed holds = unsafe-left _ i written powered flushed (holds asked cs .0 out)
+leaves-bytes by cs i out written powered flushed holds = unsafe-left _ i written powered flushed (holds ordered cs .0 out)
 
 -- Example m's run: the stop goes out right after the write.
 abbrev goesOut : List Call
-goesOut = stop 0 ∷ next 0 ∷ answer 0 Good ∷ write 1 ∷ next 0 ∷ []
+goesOut = stops 0 ∷ next 0 ∷ answer 0 Good ∷ write 1 ∷ next 0 ∷ []
 
 pub flushes-once-leaves-bytes : NoByteLeftBehind flushesOnce → ⊥
 unfolding computed manufactureOutcome
 flushes-once-leaves-bytes = leaves-bytes flushesOnce goesOut 1 refl refl refl refl
 
 -- What is said over the history sees the one that clears the mark too: as a go to goes out,
-abbrev toIdleB : Call
-toIdleB = startStop 0 (0x1B ∷ 0 ∷ 0 ∷ 1 ∷ 0x20 ∷ 0 ∷ [])
+abbrev goesToIdleB : Call
+goesToIdleB = startStop 0 (0x1B ∷ 0 ∷ 0 ∷ 1 ∷ 0x20 ∷ 0 ∷ [])
 
 pub clears-mark-leaves-bytes : NoByteLeftBehind clearsMark → ⊥
 unfolding computed manufactureOutcome
-clears-mark-leaves-bytes = leaves-bytes clearsMark (toIdleB ∷ next 0 ∷ answer 0 Good ∷ write 1 ∷ next 0 ∷ []) 1 refl refl refl refl
+clears-mark-leaves-bytes = leaves-bytes clearsMark (goesToIdleB ∷ next 0 ∷ answer 0 Good ∷ write 1 ∷ next 0 ∷ []) 1 refl refl refl refl
 
 -- and as the stop is answered good.
 pub clears-mark-parks-over-bytes : NoByteLeftBehind clearsMark → ⊥
 unfolding computed manufactureOutcome
 clears-mark-parks-over-bytes holds =
-    unsafe-left (pastBy clearsMark (manufactureOutcome asked .unit) writeBetween) 2 refl refl refl (holds asked writeBetween .1 refl)
+    unsafe-left (pastBy clearsMark (manufactureOutcome ordered .unit) writeBetween) 2 refl refl refl (holds ordered writeBetween .1 refl)
 
 -- The flush is sent, then the write is taken, then the flush is answered good, and the stop goes out.
 pub writes-through-leaves-bytes : NoByteLeftBehind writesThrough → ⊥
 unfolding computed manufactureOutcome
-writes-through-leaves-bytes = leaves-bytes writesThrough (stop 0 ∷ next 0 ∷ write 1 ∷ answer 0 Good ∷ next 0 ∷ []) 2 refl refl refl refl
+writes-through-leaves-bytes = leaves-bytes writesThrough (stops 0 ∷ next 0 ∷ write 1 ∷ answer 0 Good ∷ next 0 ∷ []) 2 refl refl refl refl
 
 -- Host 0's stop goes out over host 2's write, since host 1's bad flush came between.
 pub bad-flush-saves-leaves-bytes : NoByteLeftBehind badFlushSaves → ⊥
 unfolding computed manufactureOutcome
 bad-flush-saves-leaves-bytes =
-    leaves-bytes badFlushSaves (stop 0 ∷ stop 1 ∷ next 0 ∷ answer 0 Good ∷ write 2 ∷ next 1 ∷ answer 1 Bad ∷ next 0 ∷ []) 3 refl refl refl refl
+    leaves-bytes badFlushSaves (stops 0 ∷ stops 1 ∷ next 0 ∷ answer 0 Good ∷ write 2 ∷ next 1 ∷ answer 1 Bad ∷ next 0 ∷ []) 3 refl refl refl refl
 
 -- ---- the commands handed out
 
@@ -189,7 +190,7 @@ pub keeps-power-fails-demand-3 : Demand3 keepsPower → ⊥
 unfolding computed
 keeps-power-fails-demand-3 holds =
     let shown : _≡_ {A = ℕ} 2 0 =
-    ap (λ (k : Compared). depth (k .power)) (holds fresh (epc 0x82 0x1 ∷ stop 0 ∷ next 0 ∷ answer 0 Bad ∷ []) refl refl refl refl)
+    ap (λ (k : Compared). depth (k .power)) (holds fresh (epc 0x82 0x1 ∷ stops 0 ∷ next 0 ∷ answer 0 Bad ∷ []) refl refl refl refl)
     in
     omega arith
 
@@ -197,14 +198,14 @@ keeps-power-fails-demand-3 holds =
 pub bad-flush-saves-fails-demand-3 : Demand3 badFlushSaves → ⊥
 unfolding computed
 bad-flush-saves-fails-demand-3 holds =
-    false≢true (ap (λ (k : Compared). k .unsaved) (holds fresh (write 1 ∷ stop 0 ∷ next 0 ∷ answer 0 Bad ∷ []) refl refl refl refl))
+    false≢true (ap (λ (k : Compared). k .unsaved) (holds fresh (write 1 ∷ stops 0 ∷ next 0 ∷ answer 0 Bad ∷ []) refl refl refl refl))
 
 -- A stopped unit stays stopped through a go to that fails.
 pub failure-starts-fails-demand-3 : Demand3 failureStarts → ⊥
 unfolding computed
 failure-starts-fails-demand-3 holds =
-    let parks = stop 0 ∷ next 0 ∷ answer 0 Good ∷ next 0 ∷ answer 0 Good ∷ [] in
-    false≢true (ap (λ (k : Compared). k .stopped) (holds fresh (parks ++ toIdleB ∷ next 0 ∷ answer 0 Bad ∷ []) refl refl refl refl))
+    let parks = stops 0 ∷ next 0 ∷ answer 0 Good ∷ next 0 ∷ answer 0 Good ∷ [] in
+    false≢true (ap (λ (k : Compared). k .stopped) (holds fresh (parks ++ goesToIdleB ∷ next 0 ∷ answer 0 Bad ∷ []) refl refl refl refl))
 
 -- ---- "one that changes nothing fails the effects"
 
@@ -217,8 +218,13 @@ changes-nothing-fails-demand-3 holds =
 pub changes-nothing-fails-mark : MarkTells changesNothing → ⊥
 unfolding computed manufactureOutcome
 changes-nothing-fails-mark holds =
-    let unsafe = holds asked (write 0 ∷ []) .1 .0 refl 0 refl (λ j before. absurd (omega arith)) in
+    let unsafe = holds ordered (write 0 ∷ []) .1 .0 refl 0 refl (λ j before. absurd (omega arith)) in
     omega (arith, unsafe .1)
+
+-- A read leaves the idle count at 7.
+pub changes-nothing-fails-idle : IdleRestarts changesNothing → ⊥
+unfolding computed
+changes-nothing-fails-idle holds = let shown : _≡_ {A = ℕ} 7 0 = holds (idled 7 fresh) (read 0) refl in omega arith
 
 -- ---- "one that refuses all .. fails demand 2's tables"
 
@@ -262,10 +268,10 @@ refuses-all-meets-demand-3 u cs w n r e = rw (nothing-left u [] cs, nothing-move
 
 pub one-for-all-fails-numbers : Numbers oneForAll → ⊥
 unfolding computed
-one-for-all-fails-numbers holds = false≢true (holds (run fresh (stop 0 ∷ [])) (stop 1) OwnWaiting .0 refl .applies)
+one-for-all-fails-numbers holds = false≢true (holds (run fresh (stops 0 ∷ [])) (stops 1) OwnWaiting .0 refl .applies)
 
 -- Demand 3 drops the call that is refused wrongly, and on the run in which the two operations would meet sees nothing.
-pub one-for-all-agrees : Agrees oneForAll (stop 0 ∷ stop 1 ∷ next 0 ∷ answer 0 Good ∷ next 1 ∷ next 0 ∷ answer 0 Good ∷ [])
+pub one-for-all-agrees : Agrees oneForAll (stops 0 ∷ stops 1 ∷ next 0 ∷ answer 0 Good ∷ next 1 ∷ next 0 ∷ answer 0 Good ∷ [])
 unfolding computed
 one-for-all-agrees = (refl, refl, refl, refl)
 
@@ -276,7 +282,7 @@ pub invents-count-fails-flush-count : FlushCount inventsCount → ⊥
 unfolding computed
 invents-count-fails-flush-count holds =
     let shown : _≡_ {A = ℕ} 1 2 =
-    holds fresh (stop 0 ∷ next 0 ∷ answer 0 Good ∷ write 1 ∷ next 0 ∷ answer 0 Good ∷ next 0 ∷ []) 0 refl refl .1 Good _ refl
+    holds fresh (stops 0 ∷ next 0 ∷ answer 0 Good ∷ write 1 ∷ next 0 ∷ answer 0 Good ∷ next 0 ∷ []) 0 refl refl .1 Good _ refl
     in
     omega arith
 
@@ -319,7 +325,7 @@ abbrev meanwhile : List Call
 meanwhile =
     -- a start of the host's own that ends well, with IMMED; a stop of its own that fails, without
     startStop 0 (0x1B ∷ 1 ∷ 0 ∷ 0 ∷ 1 ∷ 0 ∷ []) ∷ next 0 ∷ answer 0 Good
-    ∷ stop 0 ∷ next 0 ∷ answer 0 Bad
+    ∷ stops 0 ∷ next 0 ∷ answer 0 Bad
     -- its own REQUEST SENSE refused, with number 1
     ∷ requestSense 0 []
     -- another host's failure with IMMED, and that host's REQUEST SENSE

@@ -35,7 +35,8 @@ abbrev pub beginning : ℕ → List ℕ → Verdict → Deed
 beginning host cdb Clear = begins host cdb
 beginning host cdb (Given r) = refuses (startStop host cdb)
 
--- A host's question for its next command, by what it was told.
+-- A host's question for its next command, by what it was told. What is no answer of the call's own kind, which only a wrong program says, counts as a
+-- refusal.
 abbrev pub sending : ℕ → Said → Deed
 sending host (plain a) = refuses (next host)
 sending host (accepted a) = refuses (next host)

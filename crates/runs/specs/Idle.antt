@@ -6,7 +6,7 @@ use Rattle.calls.specs.Calls.{Call, StepFunction}
 use Rattle.calls.specs.Kinds.{isTickOrLog}
 use Rattle.runs.specs.Deeds.{Deed, begins, sends, goesOn, ends, does, aborts, refuses, deedOf}
 
--- "An abort .. like every accepted call but a tick or a log page read, sets the idle count to 0." No other refusal does.
+-- "An abort .. like every accepted call but a tick or a log page read, sets the idle count to 0." (That no other refusal does is calls/Numbers · refusal-keeps.)
 abbrev pub restartsIdle : Deed → Bool
 restartsIdle (begins host cdb) = true
 restartsIdle (sends host q) = true

@@ -38,7 +38,7 @@ flushSent k (does c ∷ past) = flushSent k past
 flushSent k (aborts c ∷ past) = flushSent k past
 flushSent k (refuses c ∷ past) = flushSent k past
 
--- "the answers its last flush and its last command got": a flush's answer takes the place of an earlier flush's, the last command's stands
+-- "the answers its last flush and its last command got" (demand 3): a flush's answer takes the place of an earlier flush's, the last command's stands
 -- after it.
 abbrev pub gets : Bool → Reply → List Reply → List Reply
 gets toFlush reply before = cond toFlush (reply ∷ []) (before ++ reply ∷ [])

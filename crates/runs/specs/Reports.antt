@@ -119,8 +119,8 @@ unitAfter by u c cs = runBy by (by u c .unit) cs
 abbrev pub WaitsAs : List ℕ → Slot → Type 0
 WaitsAs cdb s = (q : Request) × (s ≡ Waiting q) × (wanted cdb ≡ Wants (q .target)) × (immed cdb ≡ q .immed)
 
--- "Each accepted START STOP UNIT has exactly one end report, or was taken by a reset, or still waits at the end.": one of the three befalls it, and
--- what still waits by the history does wait in the record.
+-- Each accepted START STOP UNIT has exactly one end report, or was taken by a reset, or still waits at the end: one of the three befalls it, and what
+-- still waits by the history does wait in the record.
 abbrev pub OneFate : StepFunction → Type 0
 OneFate by = (u : Unit) (host : ℕ) (cdb : List ℕ) (cs : List Call) → wellFormed u ≡ true → deedBy by u (startStop host cdb) ≡ begins host cdb
     → let later = deedsAfter by u (startStop host cdb) cs in
@@ -158,7 +158,7 @@ HeldTold by = (u : Unit) (host : ℕ) (reply : Reply) (report : Report) (s : Sen
     deedBy by w (requestSense host buffer) ≡ does (requestSense host buffer)
     → (by w (requestSense host buffer) .buffer ≡ senseBytes true s) × (heldOf (by w (requestSense host buffer) .unit .held) host ≡ Nothing)
 
--- "A failure with IMMED is what that host's next accepted REQUEST SENSE gives, unless a newer failure or a reset came between.": a START STOP UNIT
+-- A failure with IMMED is what that host's next accepted REQUEST SENSE gives, unless a newer failure or a reset came between: a START STOP UNIT
 -- accepted with IMMED 1; its last answer, by which it fails; nothing that takes the held sense; the bytes of the failure.
 abbrev pub FailureTold : StepFunction → Type 0
 FailureTold by = (u : Unit) (host : ℕ) (cdb : List ℕ) (cs : List Call) (reply : Reply) (report : Report) (later : List Call) (buffer : List ℕ)

@@ -148,7 +148,7 @@ enderIn (refuses c) = []
 
 -- A place in a run: another call, as it was, or an operation of this host.
 pub data Place : Type 0 where
-  call : Deed → Place
+  otherCall : Deed → Place
   operation : ℕ → Place
 
 -- In the real run an operation's place is that of its last drive answer,
@@ -157,8 +157,8 @@ realPlace (begins host cdb) = []
 realPlace (sends host q) = []
 realPlace (goesOn host reply) = []
 realPlace (ends host reply report) = operation host ∷ []
-realPlace (does c) = call (does c) ∷ []
-realPlace (aborts c) = call (aborts c) ∷ []
+realPlace (does c) = otherCall (does c) ∷ []
+realPlace (aborts c) = otherCall (aborts c) ∷ []
 realPlace (refuses c) = []
 
 -- in the serial run that of its START STOP UNIT.
@@ -167,8 +167,8 @@ serialPlace (begins host cdb) = operation host ∷ []
 serialPlace (sends host q) = []
 serialPlace (goesOn host reply) = []
 serialPlace (ends host reply report) = []
-serialPlace (does c) = call (does c) ∷ []
-serialPlace (aborts c) = call (aborts c) ∷ []
+serialPlace (does c) = otherCall (does c) ∷ []
+serialPlace (aborts c) = otherCall (aborts c) ∷ []
 serialPlace (refuses c) = []
 
 -- The deeds of a real run beside those of its serial run.
@@ -181,7 +181,7 @@ pub record Serialises (real serially : List Deed) : Type 0 where
   pub one-each : (host : ℕ) → gather (begunIn host) serially ≡ gather (begunIn host) real
   -- and all hosts together in the order of their last answers. (A host has one operation at a time, so this says which pair stands where.)
   pub in-order : gather beginnerIn serially ≡ gather enderIn real
-  -- Among the other calls each stands at the place of its last drive answer.
+  -- Among the other calls each stands at the place of its last drive answer. (`same-others` and `in-order` follow from this.)
   pub in-place : gather serialPlace serially ≡ gather realPlace real
   -- Each is run to its end.
   pub over : gather enderIn serially ≡ gather enderIn real

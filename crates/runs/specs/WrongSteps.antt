@@ -1,5 +1,5 @@
--- Wrong programs, as step functions: those of document 01, "Holding the wording to account", in quotation marks, and others. Each does as the layer does
--- but for its own slip.
+-- Wrong programs, as step functions: those of document 01's "Holding the wording to account" and "Slips seen in other boards", in its words, and others.
+-- Each does as the layer does but for its own slip.
 use mathlib.Core.Bool.{Bool, true, false, not, _&&_, cond}
 use lib.Dec.{eqb}
 use lib.ListN.{replicate}
@@ -74,6 +74,8 @@ flushesOnce u c = cond (afterFlush u c) (leaving (marked (u .unsaved) (unlooked 
 abbrev pub clearsMark : StepFunction
 clearsMark u c = cond (afterFlush u c && isClear (verdictIn (outcome u c .said))) (unlooked u c) (outcome u c)
 
+-- ---- others
+
 -- One that takes a write while a command is out, as if none were: the flush that is out may not cover it.
 abbrev pub writesThrough : StepFunction
 writesThrough u c =
@@ -97,11 +99,11 @@ changesNothing u c = leaving u (outcome u c)
 
 -- ---- failures
 
--- The operation is over, and the end report has a failure's sense.
 abbrev pub isDue : SenseDue → Bool
 isDue NoSense = false
 isDue (WithSense s) = true
 
+-- The operation is over, and the end report has a failure's sense.
 abbrev pub isFailure : Said → Bool
 isFailure (plain a) = false
 isFailure (accepted a) = false
@@ -195,7 +197,7 @@ inventsCount = reporting (λ report. Ended (record { status = report .status; se
 abbrev pub swallows : StepFunction
 swallows = reporting (λ report. More)
 
--- One that ends a failure as if it had gone well: its report has no sense.
+-- One that leaves the sense out of a failure's end report.
 abbrev pub mutes : StepFunction
 mutes = reporting (λ report. Ended (record { status = report .status; sense = NoSense; flushes = report .flushes }))
 
