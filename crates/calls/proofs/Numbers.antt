@@ -9,8 +9,9 @@ use native.Mathlib.Nat.{not-suc-le-zero, le-of-suc-le-suc}
 use native.Mathlib.Omega.{arith}
 use lib.Dec.{eqb}
 use lib.ListN.{length}
-use borrow.Author.Tests.{eqb-true, not-false}
-use Rattle.rows.proofs.Places.{and-right, every-at}
+use borrow.Author.Tests.{eqb-true, not-true, not-false}
+use Rattle.rows.specs.Rows.{everyAt}
+use Rattle.rows.proofs.Places.{and-left, and-right, every-at}
 use Rattle.drive.specs.Records.{largest, driveWellFormed}
 use Rattle.drive.specs.declared.Record.{Record}
 use Rattle.unit.specs.Units.{slotOf, isWaiting, isOutFor, hostsWellFormed, outWellFormed, wellFormed, withSlot, rested}
@@ -65,6 +66,24 @@ none-clear (row ∷ rows) h = rw (h 0) (none-clear rows (λ i. h (suc i)))
 -- No number is given exactly when no row applies.
 pub clear-exactly : (rows : List Row) → lowest rows ≡ Clear ↔ NoneApplies rows
 clear-exactly rows = (clear-none rows, none-clear rows)
+
+-- A row that does not apply passes on to the rest; one that applies gives its number.
+pub row-passes : (row : Row) (rows : List Row) → row .applies ≡ false → lowest (row ∷ rows) ≡ lowest rows
+unfolding lowest
+row-passes row rows e = rw e
+
+pub row-gives : (row : Row) (rows : List Row) → row .applies ≡ true → lowest (row ∷ rows) ≡ Given (row .gives)
+unfolding lowest
+row-gives row rows e = rw e
+
+-- Where every row's test is false no number is given.
+pub clear-when : (rows : List Row) → everyAt (λ at row. not (row .applies)) 0 rows ≡ true → lowest rows ≡ Clear
+clear-when rows = from 0 rows
+  where
+    from : (at : ℕ) (rows : List Row) → everyAt (λ i row. not (row .applies)) at rows ≡ true → lowest rows ≡ Clear
+    from at [] h = clear-exactly [] .1 (λ i. refl)
+    from at (row ∷ rows) h =
+        row-passes row rows (not-true (row .applies) (and-left (not (row .applies)) _ h)) ∙ from (suc at) rows (and-right (not (row .applies)) _ h)
 
 later : (row : Row) (rows : List Row) (r : Refusal) → row .applies ≡ false → FirstGives rows r → FirstGives (row ∷ rows) r
 later row rows r e f =

@@ -28,7 +28,7 @@ use Rattle.unit.specs.declared.Answer.the-variants.{Done}
 use Rattle.unit.specs.declared.Unit.{Unit}
 use Rattle.unit.specs.declared.Failure.{Failure}
 use Rattle.unit.specs.declared.Failure.the-variants.{CommandSequence}
-use Rattle.bridge.specs.Operations.{registersOf, lastOf, dueFrom, isFlush, oneMore, flushesOf, flushCounted, isGood, countsAsGood, flushedWell, failed, succeeded, lastAnswered, answeredFor}
+use Rattle.bridge.specs.Operations.{registersOf, lastOf, dueFrom, isFlush, oneMore, flushesOf, flushCounted, isGood, countsAsGood, flushedWell, failed, succeeded, flushAnswered, lastAnswered, answeredFor}
 use Rattle.bridge.specs.Bridge.{startStopRows, nextRows, nextOutcome, answerRows, answerOutcome}
 use Rattle.bridge.specs.declared.Due.{Due}
 use Rattle.bridge.specs.declared.Reply.{Reply}
@@ -92,6 +92,17 @@ module _ (u : Unit) (fine : wellFormed u ≡ true) (host : ℕ) (q : Request) (w
   answer-taken out reply = rw (answer-clear out, waiting)
 
 -- ---- the answer
+
+-- An answer is judged by the command that is due.
+pub flush-answered : (u : Unit) (host : ℕ) (q : Request) (reply : Reply) → isFlush (dueFrom (u .unsaved) q) ≡ true
+    → answeredFor u host q reply ≡ flushAnswered u host q reply
+unfolding answeredFor
+flush-answered u host q reply f = rw f
+
+pub last-answered : (u : Unit) (host : ℕ) (q : Request) (reply : Reply) → isFlush (dueFrom (u .unsaved) q) ≡ false
+    → answeredFor u host q reply ≡ lastAnswered u host q reply
+unfolding answeredFor
+last-answered u host q reply f = rw f
 
 -- The operation is over: the answer says so, with its report, and the slot is empty. Nothing is out.
 pub record Over (host : ℕ) (r : Replied) : Type 0 where

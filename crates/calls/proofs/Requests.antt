@@ -8,9 +8,9 @@ use Prim.Native.Nat.{ℕ, _+_, _*_, _<_}
 use native.Mathlib.Omega.{arith}
 use lib.Dec.{eqb, ltb}
 use lib.ListN.{length}
-use borrow.Author.Tests.{lt-ltb}
+use borrow.Author.Tests.{lt-ltb, not-true}
 use Rattle.rows.specs.Rows.{everyAt}
-use Rattle.rows.proofs.Places.{and-right}
+use Rattle.rows.proofs.Places.{and-left, and-right}
 use Rattle.drive.specs.declared.Condition.the-variants.{IdleA, IdleB, IdleC, StandbyY, StandbyZ}
 use Rattle.drive.specs.declared.Record.{Record}
 use Rattle.epc.specs.Bits.{bits}
@@ -36,6 +36,16 @@ pub listed-request : (rs : List Record) (cdb : List ℕ) (t : Target) → isList
 unfolding isListed
 listed-request rs cdb t h w =
     fits-request rs t (noFlush cdb) (rw w at (and-right (not (reservedOne cdb)) (fits rs (wanted cdb)) h))
+
+-- A CDB is listed if no reserved bit is one and what it asks for fits; and then no reserved bit is.
+pub listed-when : (rs : List Record) (cdb : List ℕ) (t : Target) → reservedOne cdb ≡ false → wanted cdb ≡ Wants t → fits rs (Wants t) ≡ true
+    → isListed rs cdb ≡ true
+unfolding isListed
+listed-when rs cdb t none wants ok = rw (none, wants) ok
+
+pub listed-unreserved : (rs : List Record) (cdb : List ℕ) → isListed rs cdb ≡ true → reservedOne cdb ≡ false
+unfolding isListed
+listed-unreserved rs cdb h = not-true _ (and-left (not (reservedOne cdb)) _ h)
 
 -- ---- a CDB written from its fields
 

@@ -259,6 +259,15 @@ manufacture-well-formed ms = on (wellFormed (madeUnit ms)) refl
     on true e = e
     on false e = blank-fine
 
+-- It has nothing waiting and no mark, whether it is the unit asked for or the blank one.
+pub manufacture-rests : (ms : List Made) → let u = manufactureOutcome ms .unit in (u .slots ≡ replicate 4 emptySlot) × (u .unsaved ≡ false)
+unfolding manufactureOutcome lowest
+manufacture-rests ms = on (wellFormed (madeUnit ms))
+  where
+    on : (ok : Bool) → let u = manufactured ms ok .unit in (u .slots ≡ replicate 4 emptySlot) × (u .unsaved ≡ false)
+    on true = (refl, refl)
+    on false = (refl, refl)
+
 -- Manufacture is accepted exactly if the five records that it asks for are well formed.
 pub manufacture-accepts : (ms : List Made) → (manufactureOutcome ms .answer ≡ Done) ↔ (recordsWellFormed largest (mapAt madeRecord 0 ms) ≡ true)
 unfolding manufactureOutcome lowest

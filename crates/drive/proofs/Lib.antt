@@ -4,3 +4,4 @@ pub mod Numbers
 pub mod Ticks
 pub mod WellFormed
 pub mod Maker
+pub mod Used

@@ -1,7 +1,8 @@
 -- The idle count starts again with each of these calls: each effect goes through the one restart.
-use mathlib.Core.Path.{_≡_, refl}
+use mathlib.Core.Path.{_≡_, refl, ap}
 use mathlib.Core.Bool.{true, false≢true}
-use Rattle.drive.specs.Drives.{used, poweredOn}
+use Rattle.drive.specs.declared.Tenths.{Tenths}
+use Rattle.drive.proofs.Used.{used-leaves, powered-on-leaves}
 use Rattle.epc.proofs.Effects.{either, idle-after}
 use Rattle.unit.specs.declared.Unit.{Unit}
 use Rattle.calls.specs.Calls.{outcome}
@@ -14,7 +15,6 @@ Restarts d v = restartsIdle d ≡ true → v .drive .idle .0 ≡ 0
 
 -- Every accepted call but a tick or a log page read sets the idle count to 0, and so does an abort.
 pub idle-restarts : IdleRestarts outcome
-unfolding used poweredOn
 idle-restarts u = by-deed Restarts u (record {
   refused = λ c h. absurd (false≢true h);
   aborted = λ q ten h. refl;
@@ -26,9 +26,9 @@ idle-restarts u = by-deed Restarts u (record {
   last-failed = λ host reply q taken f g h. either (λ (v : Unit). v .drive .idle .0 ≡ 0) (q .immed) _ _ refl refl;
   epc = λ q clear h. idle-after q (u .drive);
   ticks = λ h. absurd (false≢true h);
-  reads = λ host clear h. refl;
-  writes = λ host clear h. refl;
-  powers-on = λ h. refl;
+  reads = λ host clear h. ap (λ (t : Tenths). t .0) (used-leaves (u .drive) .2);
+  writes = λ host clear h. ap (λ (t : Tenths). t .0) (used-leaves (u .drive) .2);
+  powers-on = λ h. ap (λ (t : Tenths). t .0) (powered-on-leaves (u .drive) .2);
   resets-hard = λ h. refl;
   resets-soft = λ h. refl;
   tells = λ host buffer clear h. refl;

@@ -1,14 +1,13 @@
 -- The past knows the record: of each waiting operation the CDB, the flushes answered and the answers, and of what is out whether it is a flush.
 -- Each call keeps that, case by case; a case that changes a slot is split by whether it is this host's.
 use mathlib.Core.Path.{_≡_, refl, sym, ap, _∙_}
-use mathlib.Core.Bool.{Bool, true, false, not, _||_, cond, true≢false}
+use mathlib.Core.Bool.{Bool, true, false, _||_, cond, true≢false}
 use mathlib.Core.List.{List, [], _∷_, reverseAux}
 use Prim.Native.Nat.{ℕ, zero, suc, _+_, _<_}
 use native.Mathlib.Omega.{arith}
 use lib.Dec.{eqb, ltb}
 use lib.ListN.{length, set, replicate}
-use borrow.Author.Tests.{ltb-true, ltb-false, le-ltb, eq-eqb, eqb-true, not-true, not-false}
-use Rattle.rows.proofs.Places.{and-left}
+use borrow.Author.Tests.{ltb-true, ltb-false, le-ltb, eq-eqb, eqb-true, not-false}
 use Rattle.epc.proofs.Effects.{either}
 use Rattle.unit.specs.Units.{emptySlot, slotOf, isOut, wellFormed, withSlot, rested}
 use Rattle.unit.specs.Refusals.{lowest}
@@ -26,7 +25,7 @@ use Rattle.unit.specs.declared.Out.the-variants.{NoneOut, OutFor}
 use Rattle.unit.specs.declared.Failure.the-variants.{CommandSequence}
 use Rattle.unit.specs.declared.Verdict.the-variants.{Clear}
 use Rattle.unit.specs.declared.Unit.{Unit}
-use Rattle.bridge.specs.Cdb.{byte, immed, noFlush, reservedOne, wanted, isListed, stageFor, requestFor}
+use Rattle.bridge.specs.Cdb.{byte, immed, noFlush, reservedOne, wanted, stageFor, requestFor}
 use Rattle.bridge.specs.Operations.{registersOf, dueAt, dueFrom, isFlush, oneMore, flushesOf, flushCounted, flushedWell, failed, reportGood, reportFailed}
 use Rattle.bridge.specs.Bridge.{startStopRows, nextEffect, answerRows}
 use Rattle.bridge.specs.declared.Wanted.the-variants.{Wants}
@@ -37,6 +36,7 @@ use Rattle.bridge.specs.declared.Reply.the-variants.{Good, Bad}
 use Rattle.bridge.specs.declared.Report.{Report}
 use Rattle.calls.specs.Calls.{Call, tick, powerOn, hardReset, softReset, step, run, history}
 use Rattle.calls.proofs.Numbers.{clear-none}
+use Rattle.calls.proofs.Requests.{listed-unreserved}
 use Rattle.calls.proofs.WellFormed.{well-formed-kept}
 use Rattle.calls.proofs.Progress.{last-no-flush}
 use Rattle.runs.specs.Deeds.{Deed, begins, sends, goesOn, ends, does, deeds}
@@ -141,11 +141,10 @@ fresh-reached (GoTo c) false = (refl, refl)
 -- A CDB that is accepted, as the request that it asks for.
 begun-noted : (u : Unit) (host : ℕ) (cdb : List ℕ) (t : Target) → lowest (startStopRows u host cdb) ≡ Clear → wanted cdb ≡ Wants t
     → Noted cdb 0 [] (requestFor t cdb)
-unfolding isListed
 begun-noted u host cdb t clear wants = record {
   six = eqb-true _ _ (not-false _ (clear-none (startStopRows u host cdb) clear 0));
   opcode = eqb-true _ _ (not-false _ (clear-none (startStopRows u host cdb) clear 5));
-  unreserved = not-true _ (and-left (not (reservedOne cdb)) _ (not-false _ (clear-none (startStopRows u host cdb) clear 6)));
+  unreserved = listed-unreserved (u .drive .records) cdb (not-false _ (clear-none (startStopRows u host cdb) clear 6));
   wants = wants;
   immediate = refl;
   reached = fresh-reached t (noFlush cdb);

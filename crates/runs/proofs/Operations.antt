@@ -30,11 +30,11 @@ use Rattle.bridge.specs.declared.Reply.the-variants.{Good, Bad}
 use Rattle.bridge.specs.declared.Report.{Report}
 use Rattle.bridge.specs.declared.Progress.the-variants.{Ended}
 use Rattle.bridge.specs.declared.Replied.{Replied}
-use Rattle.calls.proofs.Numbers.{clear-none}
+use Rattle.calls.proofs.Numbers.{clear-none, clear-when}
 use Rattle.calls.proofs.Hosts.{own-slot}
-use Rattle.calls.proofs.Requests.{request-fits}
+use Rattle.calls.proofs.Requests.{request-fits, listed-when}
 use Rattle.calls.proofs.WellFormed.{unit-fine}
-use Rattle.calls.proofs.Progress.{last-no-flush, one-more-some}
+use Rattle.calls.proofs.Progress.{flush-answered, last-answered, last-no-flush, one-more-some}
 use Rattle.runs.specs.Deeds.{Deed, begins, sends, goesOn, ends}
 use Rattle.runs.specs.Past.{cdbOf, gets, replies, flushesAnswered, heldAt255}
 use Rattle.runs.specs.Serial.{whole}
@@ -86,13 +86,11 @@ last-report false u host q = refl
 
 last-taken : (w : Unit) (host : ℕ) (p : Request) (reply : Reply) (good : Bool) → isFlush (dueFrom (w .unsaved) p) ≡ false
     → countsAsGood (p .target) reply ≡ good → answeredFor w host p reply ≡ lastBy good w host p
-unfolding answeredFor
-last-taken w host p reply good due g = rw (due, g)
+last-taken w host p reply good due g = last-answered w host p reply due ∙ rw g
 
 bad-flush-taken : (w : Unit) (host : ℕ) (p : Request) → p .stage ≡ Flushing 0
     → answeredFor w host p Bad ≡ failed w host p CommandSequence (oneMore (flushesOf (p .stage)))
-unfolding answeredFor
-bad-flush-taken w host p e = rw e
+bad-flush-taken w host p e = flush-answered w host p Bad (rw e)
 
 module _ (u v w : Unit) (host : ℕ) (q p : Request) (same : Same u v) (ready : Ready v w host q p) where
   records : w .drive .records ≡ u .drive .records
@@ -209,15 +207,14 @@ module _ (past : List Deed) (u v : Unit) (known : Known past u) (same : Same u v
     noted = known .1 host q (taken .waiting)
 
     listed : isListed (v .drive .records) cdb ≡ true
-    unfolding isListed
     listed =
         let fits = request-fits (u .drive .records) (q .target) (q .stage) (rw (taken .waiting) at (unit-fine u .0 (known .0) .requests host)) in
-        rw (same .records, noted .unreserved, noted .wants) fits
+        listed-when (v .drive .records) cdb (q .target) (noted .unreserved) (noted .wants) (rw (same .records) fits)
 
     accepts : lowest (startStopRows v host cdb) ≡ Clear
-    unfolding lowest
     accepts =
-        rw (
+        clear-when (startStopRows v host cdb)
+        (rw (
           eq-eqb _ _ (noted .six),
           clear-none (answerRows u host) (taken .clear) 0,
           same .fine,
@@ -225,7 +222,7 @@ module _ (past : List Deed) (u v : Unit) (known : Known past u) (same : Same u v
           same .quiet host,
           eq-eqb _ _ (noted .opcode),
           listed,
-        )
+        ))
 
     -- The CDB is accepted in the serial run too.
     admitted : Admitted v host cdb q

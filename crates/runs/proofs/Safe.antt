@@ -13,18 +13,15 @@ use Rattle.rows.proofs.Places.{and-left, and-right}
 use Rattle.drive.specs.declared.Made.{Made}
 use Rattle.epc.proofs.Effects.{either}
 use Rattle.unit.specs.Units.{slotOf, isOut, wellFormed}
-use Rattle.unit.specs.Refusals.{numberOf, lowest, settled}
 use Rattle.bridge.specs.Bridge.{answerRows}
 use Rattle.calls.proofs.Numbers.{clear-none}
-use Rattle.unit.specs.Calls.{notWellFormed, madeUnit, blank, manufactureOutcome}
+use Rattle.unit.specs.Calls.{manufactureOutcome}
 use Rattle.unit.specs.declared.Target.{Target}
 use Rattle.unit.specs.declared.Target.the-variants.{Stop, Start, GoTo}
 use Rattle.unit.specs.declared.Stage.the-variants.{Flushing}
 use Rattle.unit.specs.declared.Request.{Request}
 use Rattle.unit.specs.declared.Slot.the-variants.{Waiting}
 use Rattle.unit.specs.declared.Failure.the-variants.{CommandSequence}
-use Rattle.unit.specs.declared.Verdict.{Verdict}
-use Rattle.unit.specs.declared.Verdict.the-variants.{Clear, Given}
 use Rattle.unit.specs.declared.Unit.{Unit}
 use Rattle.bridge.specs.Cdb.{noFlush, stageFor}
 use Rattle.bridge.specs.Operations.{registersOf, lastOf, dueFrom, isFlush, reportFailed, failed}
@@ -33,7 +30,7 @@ use Rattle.bridge.specs.declared.Reply.{Reply}
 use Rattle.bridge.specs.declared.Reply.the-variants.{Good, Bad}
 use Rattle.bridge.specs.declared.Report.{Report}
 use Rattle.calls.specs.Calls.{Call, setFeatures, tick, read, write, powerOn, hardReset, softReset, requestSense, logPage, outcome, step, run}
-use Rattle.calls.proofs.WellFormed.{manufacture-well-formed}
+use Rattle.calls.proofs.WellFormed.{manufacture-well-formed, manufacture-rests}
 use Rattle.calls.specs.Kinds.{isPowerOn, isWrite}
 use Rattle.runs.specs.Deeds.{Deed, begins, sends, goesOn, ends, does, aborts, refuses, doesA}
 use Rattle.runs.specs.Past.{pastOf, cdbOf, flushSent, heldAt255}
@@ -255,7 +252,7 @@ told-kept past u c (known, (marked, last), since) = (
   by-deed (SinceAfter past u since) u (sinces past u since) c,
 )
 
-abbrev pub Saved : Unit → Type 0
+abbrev Saved : Unit → Type 0
 Saved u = (wellFormed u ≡ true) × (nothingWaits u ≡ true) × (u .unsaved ≡ false)
 
 -- Nothing is written yet.
@@ -275,7 +272,7 @@ module _ (u : Unit) (rest : Saved u) (cs : List Call) where
   told = along Told told-kept [] u cs (told-at-first u rest)
 
   -- The mark is set exactly when some write accepted since the last power-on is not safe, and clear exactly when every one is.
-  pub marked-exactly : ((run u cs .unsaved ≡ true) ↔ SomeUnsafe (pastOf u cs)) × ((run u cs .unsaved ≡ false) ↔ AllSafe (pastOf u cs))
+  marked-exactly : ((run u cs .unsaved ≡ true) ↔ SomeUnsafe (pastOf u cs)) × ((run u cs .unsaved ≡ false) ↔ AllSafe (pastOf u cs))
   marked-exactly = (
     unsaved-told (pastOf u cs) (run u cs .unsaved) (told .1 .0),
     saved-told (pastOf u cs) (run u cs .unsaved) (told .1 .0),
@@ -285,19 +282,14 @@ module _ (u : Unit) (rest : Saved u) (cs : List Call) where
   last-all-safe last = marked-exactly .1 .0 (told .1 .1 last)
 
   -- Every one is when a flushing operation's last command goes out, and when it is answered good.
-  pub none-left : (lastGoesOut (pastOf u cs) ≡ true → AllSafe (pastOf u cs)) × (lastAnsweredGood (pastOf u cs) ≡ true → AllSafe (pastOf u cs))
+  none-left : (lastGoesOut (pastOf u cs) ≡ true → AllSafe (pastOf u cs)) × (lastAnsweredGood (pastOf u cs) ≡ true → AllSafe (pastOf u cs))
   none-left = (λ last. last-all-safe (rw last), λ last. last-all-safe (rw last (or-true (lastGoesOut (pastOf u cs)))))
 
 -- ---- from manufacture on
 
 -- A unit is made so, whether it is the one asked for or the blank one.
-pub made-saved : (ms : List Made) → Saved (manufactureOutcome ms .unit)
-unfolding manufactureOutcome
-made-saved ms = let rest = on (lowest (notWellFormed (madeUnit ms) ∷ [])) in (manufacture-well-formed ms, rest .0, rest .1)
-  where
-    on : (v : Verdict) → let u = settled blank (madeUnit ms) v .unit in (nothingWaits u ≡ true) × (u .unsaved ≡ false)
-    on Clear = (refl, refl)
-    on (Given r) = either (λ (u : Unit). (nothingWaits u ≡ true) × (u .unsaved ≡ false)) (eqb (numberOf r) 10) _ _ (refl, refl) (refl, refl)
+made-saved : (ms : List Made) → Saved (manufactureOutcome ms .unit)
+made-saved ms = let rest = manufacture-rests ms in (manufacture-well-formed ms, rw (rest .0), rest .1)
 
 -- The unsaved mark tells whether every write accepted since the last power-on is safe.
 pub mark-tells : MarkTells outcome

@@ -8,18 +8,20 @@ use mathlib.Core.Logic.{_⊎_, inl, inr}
 use Prim.Native.Nat.{ℕ}
 use lib.Dec.{eqb}
 use lib.ListN.{set}
+use Rattle.rows.specs.Rows.{mapAt}
 use Rattle.drive.specs.Records.{largest}
-use Rattle.drive.specs.Drives.{restarted, ticked, used, poweredOn}
+use Rattle.drive.specs.Drives.{restarted, ticked, used, savedRestored}
 use Rattle.drive.specs.declared.Record.{Record}
 use Rattle.drive.specs.declared.Tenths.{Tenths}
 use Rattle.drive.specs.declared.Power.{Power}
 use Rattle.drive.specs.declared.Drive.{Drive}
 use Rattle.drive.proofs.Ticks.{tick-records}
+use Rattle.drive.proofs.Used.{used-leaves, powered-on-leaves}
 use Rattle.epc.specs.Epc.{aborts as epcAborts, performed}
 use Rattle.epc.specs.declared.Registers.{Registers}
 use Rattle.epc.proofs.Effects.{records-after}
 use Rattle.unit.specs.Units.{slotOf, isOut, wellFormed, withDrive, rested}
-use Rattle.unit.specs.Refusals.{lowest}
+use Rattle.unit.specs.Refusals.{_gives_, lowest}
 use Rattle.unit.specs.Calls.{epcRows, tickRows, mediumRows, resetRows, senseRows, logRows, epcEffect, tickEffect, readEffect, writeEffect, powerOnEffect, hardResetEffect, senseEffect}
 use Rattle.unit.specs.declared.Refusal.the-variants.{Aborted}
 use Rattle.unit.specs.declared.Verdict.the-variants.{Clear, Given}
@@ -33,7 +35,7 @@ use Rattle.unit.specs.declared.Unit.{Unit}
 use Rattle.calls.specs.Calls.{Call, setFeatures, tick, read, write, powerOn, hardReset, softReset, requestSense, logPage, Said, outcome}
 use Rattle.calls.specs.Table.{verdictIn}
 use Rattle.calls.specs.Numbers.{ownRows, effect}
-use Rattle.calls.proofs.Numbers.{clear-none, own-told, refusal-keeps, own-effect}
+use Rattle.calls.proofs.Numbers.{clear-none, row-passes, row-gives, clear-when, own-told, refusal-keeps, own-effect}
 use Rattle.calls.proofs.Hosts.{other-slot}
 use Rattle.calls.proofs.WellFormed.{run-well-formed}
 use Rattle.calls.specs.Kinds.{isReset}
@@ -181,8 +183,7 @@ module _ (past : List Deed) (u v : Unit) (fine : wellFormed u ≡ true) (same : 
   }
 
   tick-clear : lowest (tickRows v) ≡ Clear
-  unfolding lowest
-  tick-clear = rw (same .fine)
+  tick-clear = clear-when (tickRows v) (rw (same .fine))
 
   -- With a command out something waits, so only the records are compared.
   ticked-same : (b : Bool) → isOut (u .out) ≡ b → wellFormed (withDrive (ticked largest (v .drive)) v) ≡ true
@@ -201,8 +202,7 @@ module _ (past : List Deed) (u v : Unit) (fine : wellFormed u ≡ true) (same : 
       (ticked-same (isOut (u .out)) refl)
 
   epc-clear : (q : Registers) → lowest (epcRows u q) ≡ Clear → lowest (epcRows v q) ≡ Clear
-  unfolding lowest
-  epc-clear q clear = rw (same .fine, none-out, same .records, clear-none (epcRows u q) clear 2)
+  epc-clear q clear = clear-when (epcRows v q) (rw (same .fine, none-out, same .records, clear-none (epcRows u q) clear 2))
 
   records-same : (q : Registers) → performed q (v .drive) .records ≡ performed q (u .drive) .records
   records-same q = records-after q (v .drive) ∙ rw (same .records) (sym (records-after q (u .drive)))
@@ -213,8 +213,9 @@ module _ (past : List Deed) (u v : Unit) (fine : wellFormed u ≡ true) (same : 
       (with-drives (performed q (u .drive)) (performed q (v .drive)) (records-same q) (λ quiet. (rw (drives-same quiet), rw (drives-same quiet))))
 
   aborts-given : (q : Registers) → epcAborts q (u .drive .records) ≡ true → lowest (epcRows v q) ≡ Given Aborted
-  unfolding lowest
-  aborts-given q ten = rw (same .fine, none-out, same .records, ten)
+  aborts-given q ten =
+      row-passes _ _ (rw (same .fine)) ∙ row-passes _ _ (rw none-out)
+      ∙ row-gives (epcAborts q (v .drive .records) gives Aborted) [] (rw (same .records) ten)
 
   pub aborts-on : (q : Registers) → epcAborts q (u .drive .records) ≡ true → Stands (aborts (setFeatures q)) (rested u)
   aborts-on q ten r =
@@ -232,45 +233,51 @@ module _ (past : List Deed) (u v : Unit) (fine : wellFormed u ≡ true) (same : 
   -- ---- the medium
 
   medium-clear : (host : ℕ) → lowest (mediumRows u host) ≡ Clear → lowest (mediumRows v host) ≡ Clear
-  unfolding lowest
   medium-clear host clear =
-      rw (clear-none (mediumRows u host) clear 0, same .fine, none-out, same .stopped, clear-none (mediumRows u host) clear 3)
+      clear-when (mediumRows v host)
+      (rw (clear-none (mediumRows u host) clear 0, same .fine, none-out, same .stopped, clear-none (mediumRows u host) clear 3))
+
+  used-same : (used (v .drive) .records ≡ used (u .drive) .records) × (used (v .drive) .power ≡ used (u .drive) .power)
+      × (used (v .drive) .idle ≡ used (u .drive) .idle)
+  used-same =
+      let w = used-leaves (v .drive) in
+      let x = used-leaves (u .drive) in
+      (w .0 ∙ same .records ∙ sym (x .0), w .1 ∙ sym (x .1), w .2 ∙ sym (x .2))
 
   pub reads-on : (host : ℕ) → lowest (mediumRows u host) ≡ Clear → Stands (does (read host)) (readEffect u)
-  unfolding used
   reads-on host clear r =
       itself (read host) (readEffect u) (readEffect v) (λ said. refl) (medium-clear host clear) refl
-      (with-drives (used (u .drive)) (used (v .drive)) (same .records) (λ quiet. (refl, refl)))
+      (with-drives (used (u .drive)) (used (v .drive)) (used-same .0) (λ quiet. (used-same .1, used-same .2)))
 
   pub writes-on : (host : ℕ) → lowest (mediumRows u host) ≡ Clear → Stands (does (write host)) (writeEffect u)
-  unfolding used
   writes-on host clear r = itself (write host) (writeEffect u) (writeEffect v) (λ said. refl) (medium-clear host clear) refl (λ ok. record {
     fine = ok;
     quiet = same .quiet;
-    records = same .records;
+    records = used-same .0;
     stopped = same .stopped;
     held = same .held;
     unsaved = inl refl;
-    at-rest = λ quiet. (refl, refl);
+    at-rest = λ quiet. (used-same .1, used-same .2);
   })
 
   -- ---- resets, which fall where nothing waits
 
   reset-clear : lowest (resetRows v) ≡ Clear
-  unfolding lowest
-  reset-clear = rw (same .fine)
+  reset-clear = clear-when (resetRows v) (rw (same .fine))
 
   pub powers-on : Stands (does powerOn) (powerOnEffect u)
-  unfolding poweredOn used
-  powers-on r = itself powerOn (powerOnEffect u) (powerOnEffect v) (λ said. refl) reset-clear refl (λ ok. record {
-    fine = ok;
-    quiet = none-waits;
-    records = rw (same .records);
-    stopped = refl;
-    held = refl;
-    unsaved = inl refl;
-    at-rest = λ quiet. (refl, refl);
-  })
+  powers-on r =
+      let w = powered-on-leaves (v .drive) in
+      let x = powered-on-leaves (u .drive) in
+      itself powerOn (powerOnEffect u) (powerOnEffect v) (λ said. refl) reset-clear refl (λ ok. record {
+        fine = ok;
+        quiet = none-waits;
+        records = w .0 ∙ ap (mapAt savedRestored 0) (same .records) ∙ sym (x .0);
+        stopped = refl;
+        held = refl;
+        unsaved = inl refl;
+        at-rest = λ quiet. (w .1 ∙ sym (x .1), w .2 ∙ sym (x .2));
+      })
 
   reset-same : Quiet u → wellFormed (hardResetEffect v) ≡ true → Same (hardResetEffect u) (hardResetEffect v)
   reset-same quiet ok = record {
@@ -292,9 +299,9 @@ module _ (past : List Deed) (u v : Unit) (fine : wellFormed u ≡ true) (same : 
   -- ---- sense and log
 
   sense-clear : (host : ℕ) (buffer : List ℕ) → lowest (senseRows u host buffer) ≡ Clear → lowest (senseRows v host buffer) ≡ Clear
-  unfolding lowest
   sense-clear host buffer clear =
-      rw (clear-none (senseRows u host buffer) clear 0, clear-none (senseRows u host buffer) clear 1, same .fine, none-out)
+      clear-when (senseRows v host buffer)
+      (rw (clear-none (senseRows u host buffer) clear 0, clear-none (senseRows u host buffer) clear 1, same .fine, none-out))
 
   pub tells-on : (host : ℕ) (buffer : List ℕ) → lowest (senseRows u host buffer) ≡ Clear → Stands (does (requestSense host buffer)) (senseEffect host u)
   tells-on host buffer clear r =
@@ -309,8 +316,7 @@ module _ (past : List Deed) (u v : Unit) (fine : wellFormed u ≡ true) (same : 
       })
 
   log-clear : (buffer : List ℕ) → lowest (logRows u buffer) ≡ Clear → lowest (logRows v buffer) ≡ Clear
-  unfolding lowest
-  log-clear buffer clear = rw (clear-none (logRows u buffer) clear 0, same .fine)
+  log-clear buffer clear = clear-when (logRows v buffer) (rw (clear-none (logRows u buffer) clear 0, same .fine))
 
   pub logs-on : (buffer : List ℕ) → lowest (logRows u buffer) ≡ Clear → Stands (does (logPage buffer)) u
   logs-on buffer clear r = itself (logPage buffer) u v (λ said. refl) (log-clear buffer clear) refl (λ ok. same)

@@ -31,7 +31,7 @@ use Rattle.calls.specs.Calls.{Call, startStop, next, answer, progressed, step}
 use Rattle.calls.proofs.Numbers.{clear-none, own-told, start-accepted, next-accepted, answer-accepted}
 use Rattle.calls.proofs.Hosts.{own-slot, other-slot}
 use Rattle.calls.proofs.WellFormed.{well-formed-kept}
-use Rattle.calls.proofs.Progress.{next-clear, answer-clear, last-no-flush, counted-due}
+use Rattle.calls.proofs.Progress.{next-clear, answer-clear, flush-answered, last-no-flush, counted-due}
 use Rattle.runs.specs.Deeds.{Deed, begins, sends, goesOn, ends, answering}
 use Rattle.runs.specs.Serial.{whole}
 use Rattle.runs.proofs.Deeds.{deedAt}
@@ -147,8 +147,7 @@ module _ (v : Unit) (host : ℕ) (cdb : List ℕ) (q : Request) (a : Admitted v 
   flushed = flushedWell (nextEffect host begun) host first
 
   flush-taken : first .stage ≡ Flushing 0 → answeredFor (nextEffect host begun) host first Good ≡ flushed
-  unfolding answeredFor
-  flush-taken e = rw e
+  flush-taken e = flush-answered (nextEffect host begun) host first Good (rw e)
 
   pub flushed-due : isFlush (dueFrom false (flushCounted first)) ≡ false
   flushed-due = rw (counted-due false first refl) (last-no-flush (q .target))
