@@ -57,17 +57,17 @@ chained a b e p g m r d one two same =
 -- ---- any run
 
 -- The serial run of the calls cs, beside them from the records u and v on.
-pub record Beside (past : List Deed) (u v : Unit) (cs : List Call) : Type 0 where
-  pub made : List Deed
-  pub end : Unit
-  pub runs : RunsTo v (serialAfter past (deeds (history u cs))) made end
-  pub same : Same (run u cs) end
-  pub none-refused : gather refusedIn made ≡ []
-  pub same-others : gather otherIn made ≡ gather otherIn (deeds (history u cs))
-  pub in-order : gather beginnerIn made ≡ gather enderIn (deeds (history u cs))
-  pub in-place : gather serialPlace made ≡ gather realPlace (deeds (history u cs))
-  pub over : gather enderIn made ≡ gather enderIn (deeds (history u cs))
-  pub balance : (k : ℕ) → pending k past (u .slots) ++ gather (begunIn k) (deeds (history u cs))
+record Beside (past : List Deed) (u v : Unit) (cs : List Call) : Type 0 where
+  made : List Deed
+  end : Unit
+  runs : RunsTo v (serialAfter past (deeds (history u cs))) made end
+  same : Same (run u cs) end
+  none-refused : gather refusedIn made ≡ []
+  same-others : gather otherIn made ≡ gather otherIn (deeds (history u cs))
+  in-order : gather beginnerIn made ≡ gather enderIn (deeds (history u cs))
+  in-place : gather serialPlace made ≡ gather realPlace (deeds (history u cs))
+  over : gather enderIn made ≡ gather enderIn (deeds (history u cs))
+  balance : (k : ℕ) → pending k past (u .slots) ++ gather (begunIn k) (deeds (history u cs))
       ≡ gather (begunIn k) made ++ pending k (reverseAux (deeds (history u cs)) past) (run u cs .slots)
 
 resets-rest : (u : Unit) (c : Call) → (not (isReset c) || nothingWaits u) ≡ true → doesA isReset (deedAt u c) ≡ true → Quiet u
@@ -95,7 +95,7 @@ beside-next past u v c cs reset known f b =
           (sym (gather-append (begunIn k) ds es));
     }
 
-pub beside : (past : List Deed) (u v : Unit) → Known past u → Same u v → (cs : List Call) → resetsAtRest outcome u cs ≡ true → Beside past u v cs
+beside : (past : List Deed) (u v : Unit) → Known past u → Same u v → (cs : List Call) → resetsAtRest outcome u cs ≡ true → Beside past u v cs
 beside past u v known same [] h = record {
   made = [];
   end = v;

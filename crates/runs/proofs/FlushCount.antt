@@ -38,7 +38,7 @@ waiting-counts past u known host q waits = noted-counts (known .1 host q waits)
 -- ---- its end report
 
 -- What is said of a deed: the report of an operation that is over carries the flushes answered for it, this answer counted.
-abbrev pub ReportCounts : List Deed → Deed → Type 0
+abbrev ReportCounts : List Deed → Deed → Type 0
 ReportCounts past (begins host cdb) = Prim.Unit {0}
 ReportCounts past (sends host q) = Prim.Unit {0}
 ReportCounts past (goesOn host reply) = Prim.Unit {0}

@@ -48,16 +48,16 @@ use Rattle.runs.proofs.Same.{Helped, SameMark, Same, StandFor, Follows,
 -- ---- both ends
 
 -- u' and w' are left by the same end of the operation, in u and in w: nothing waits in w', and in u' it no longer does.
-pub record BothEnded (u w u' w' : Unit) (host : ℕ) : Type 0 where
-  pub records : w' .drive .records ≡ u' .drive .records
-  pub power : w' .drive .power ≡ u' .drive .power
-  pub idle : w' .drive .idle ≡ u' .drive .idle
-  pub stopped : w' .stopped ≡ u' .stopped
-  pub held : w' .held ≡ u' .held
-  pub quiet : Quiet w'
-  pub slots : u' .slots ≡ set (u .slots) host emptySlot
-  pub mark : u' .unsaved ≡ u .unsaved
-  pub mark' : w' .unsaved ≡ w .unsaved
+record BothEnded (u w u' w' : Unit) (host : ℕ) : Type 0 where
+  records : w' .drive .records ≡ u' .drive .records
+  power : w' .drive .power ≡ u' .drive .power
+  idle : w' .drive .idle ≡ u' .drive .idle
+  stopped : w' .stopped ≡ u' .stopped
+  held : w' .held ≡ u' .held
+  quiet : Quiet w'
+  slots : u' .slots ≡ set (u .slots) host emptySlot
+  mark : u' .unsaved ≡ u .unsaved
+  mark' : w' .unsaved ≡ w .unsaved
 
 both-held : (u w x y : Unit) (host : ℕ) (b : Bool) (f : Failure) → BothEnded u w x y host → BothEnded u w (heldIf b host f x) (heldIf b host f y) host
 both-held u w x y host true f e = record {

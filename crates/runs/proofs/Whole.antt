@@ -66,10 +66,10 @@ module _ (w : Unit) (fine : wellFormed w ≡ true) (host : ℕ) (p : Request) (w
       let e = answer-accepted (nextEffect host w) host reply p (answer-clear (nextEffect host w) out-fine host p waits refl) waits ∙ answered in
       (rw e, ap (λ (r : Replied). r .unit) e)
 
-  pub taken-fine : wellFormed (x .unit) ≡ true
+  taken-fine : wellFormed (x .unit) ≡ true
   taken-fine = rw (← takes .1) (well-formed-kept (nextEffect host w) (answer host reply) out-fine)
 
-  pub asked-once : (cs : List Call) (ds : List Deed) (y : Unit) → RunsTo (x .unit) cs ds y
+  asked-once : (cs : List Call) (ds : List Deed) (y : Unit) → RunsTo (x .unit) cs ds y
       → RunsTo w (next host ∷ answer host reply ∷ cs)
       (sends host (registersOf (dueFrom (w .unsaved) p)) ∷ answering host reply (progressed (x .answer)) ∷ ds) y
   asked-once cs ds y more =
