@@ -1,4 +1,4 @@
--- Whose slot and held sense a call may change. A value set at one place of a row leaves every other place as it was.
+-- A call changes no slot and no held sense out of its reach. A value set at one place of a row leaves every other place as it was.
 use mathlib.Core.Path.{_≡_, refl, ap}
 use mathlib.Core.List.{List}
 use Prim.Native.Nat.{ℕ, _<_}
@@ -10,29 +10,9 @@ use Rattle.unit.specs.declared.HostSlot.{HostSlot}
 use Rattle.unit.specs.declared.Held.{Held}
 use Rattle.unit.specs.declared.HostHeld.{HostHeld}
 use Rattle.unit.specs.declared.Unit.{Unit}
-use Rattle.calls.specs.Calls.{Call, setFeatures, tick, read, write, powerOn, hardReset, softReset, startStop, next, answer, requestSense, logPage, outcome}
+use Rattle.calls.specs.Calls.{Call, outcome}
+use Rattle.calls.specs.Kinds.{Reach, nobody, only, everybody, reachOf}
 use Rattle.calls.proofs.Steps.{after-every}
-
--- Nobody's, one host's, everybody's.
-pub data Reach : Type 0 where
-  nobody : Reach
-  only : ℕ → Reach
-  everybody : Reach
-
--- EPC, ticks and the log page name no host; six calls are made by a host; a reset takes from all.
-abbrev pub reachOf : Call → Reach
-reachOf (setFeatures q) = nobody
-reachOf tick = nobody
-reachOf (read host) = only host
-reachOf (write host) = only host
-reachOf powerOn = everybody
-reachOf hardReset = everybody
-reachOf softReset = everybody
-reachOf (startStop host cdb) = only host
-reachOf (next host) = only host
-reachOf (answer host reply) = only host
-reachOf (requestSense host buffer) = only host
-reachOf (logPage buffer) = nobody
 
 -- Host k has in v the slot and the held sense that it has in u.
 abbrev pub SameFor : ℕ → Unit → Unit → Type 0

@@ -1,5 +1,5 @@
 -- Document 01, "Numbers given back": the table, row by row, over all calls. Each call's own rows are those of the table that name it.
-use mathlib.Core.Bool.{Bool, true, false, not, _&&_}
+use mathlib.Core.Bool.{Bool, true, false, not, _&&_, _||_}
 use mathlib.Core.List.{List, [], _∷_}
 use Prim.Native.Nat.{ℕ}
 use lib.Dec.{eqb, ltb}
@@ -17,6 +17,7 @@ use Rattle.bridge.specs.declared.Acceptance.the-variants.{GoodDue, Pending, Not
 use Rattle.bridge.specs.declared.Next.the-variants.{Send, NotSent}
 use Rattle.bridge.specs.declared.Progress.the-variants.{More, Ended, NotTaken}
 use Rattle.calls.specs.Calls.{Call, setFeatures, tick, read, write, powerOn, hardReset, softReset, startStop, next, answer, requestSense, logPage, Said, plain, accepted, sent, progressed}
+use Rattle.calls.specs.Kinds.{sameKind, reachOf, ofHost}
 
 -- 1: "CDB not 6 bytes, sense buffer not 18, log buffer not 512".
 abbrev pub wrongLength : Call → Bool
@@ -35,18 +36,7 @@ wrongLength (logPage buffer) = not (eqb (length buffer) 512)
 
 -- 2: "host above 3". EPC, ticks, resets and the log page name no host.
 abbrev pub hostAbove : Call → Bool
-hostAbove (setFeatures q) = false
-hostAbove tick = false
-hostAbove (read host) = ltb 3 host
-hostAbove (write host) = ltb 3 host
-hostAbove powerOn = false
-hostAbove hardReset = false
-hostAbove softReset = false
-hostAbove (startStop host cdb) = ltb 3 host
-hostAbove (next host) = ltb 3 host
-hostAbove (answer host reply) = ltb 3 host
-hostAbove (requestSense host buffer) = ltb 3 host
-hostAbove (logPage buffer) = false
+hostAbove c = ofHost (λ host. ltb 3 host) (reachOf c)
 
 -- 4: "(host calls other than the answer; EPC; not ticks, resets or the log page)".
 abbrev pub waitsForDrive : Call → Bool
@@ -95,18 +85,7 @@ ofStartStop test (logPage buffer) = false
 
 -- 9: "read or write with the stopped mark".
 abbrev pub usesMedium : Call → Bool
-usesMedium (setFeatures q) = false
-usesMedium tick = false
-usesMedium (read host) = true
-usesMedium (write host) = true
-usesMedium powerOn = false
-usesMedium hardReset = false
-usesMedium softReset = false
-usesMedium (startStop host cdb) = false
-usesMedium (next host) = false
-usesMedium (answer host reply) = false
-usesMedium (requestSense host buffer) = false
-usesMedium (logPage buffer) = false
+usesMedium c = sameKind c (read 0) || sameKind c (write 0)
 
 -- 10: "EPC abort".
 abbrev pub epcAborts : Unit → Call → Bool

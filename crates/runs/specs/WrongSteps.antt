@@ -1,6 +1,6 @@
 -- Wrong programs, as step functions: those of document 01's "Holding the wording to account" and "Slips seen in other boards", in its words, and others.
 -- Each does as the layer does but for its own slip.
-use mathlib.Core.Bool.{Bool, true, false, not, _&&_, cond}
+use mathlib.Core.Bool.{Bool, true, false, not, _&&_, _||_, cond}
 use lib.Dec.{eqb}
 use lib.ListN.{replicate}
 use Rattle.drive.specs.declared.Power.the-variants.{Active}
@@ -19,11 +19,12 @@ use Rattle.bridge.specs.Operations.{registersOf, flushesOf, dueFrom, isFlush, e
 use Rattle.bridge.specs.declared.Due.the-variants.{StandbyImmediate}
 use Rattle.bridge.specs.declared.Acceptance.the-variants.{GoodDue, Pending, NotAccepted}
 use Rattle.bridge.specs.declared.Next.the-variants.{Send, NotSent}
+use Rattle.bridge.specs.declared.Reply.the-variants.{Good}
 use Rattle.bridge.specs.declared.Report.{Report}
 use Rattle.bridge.specs.declared.Progress.{Progress}
 use Rattle.bridge.specs.declared.Progress.the-variants.{More, Ended, NotTaken}
-use Rattle.calls.specs.Calls.{Call, setFeatures, tick, read, write, powerOn, hardReset, softReset, startStop, next, answer, requestSense, logPage, Said, plain, accepted, sent, progressed, Outcome, outcome, StepFunction}
-use Rattle.calls.specs.Kinds.{isWrite, isSenseOf}
+use Rattle.calls.specs.Calls.{Call, next, answer, Said, plain, accepted, sent, progressed, Outcome, outcome, StepFunction}
+use Rattle.calls.specs.Kinds.{sameKind, isWrite, reachOf, ofHost, isSenseOf}
 use Rattle.calls.specs.Table.{verdictIn, isClear}
 use Rattle.calls.specs.Numbers.{lent}
 use Rattle.runs.specs.Serial.{nothingWaits}
@@ -49,18 +50,8 @@ hasFlushed (Waiting q) = not (eqb (flushesOf (q .stage)) 0)
 
 -- The call asks or answers for such an operation.
 abbrev pub afterFlush : Unit → Call → Bool
-afterFlush u (setFeatures q) = false
-afterFlush u tick = false
-afterFlush u (read host) = false
-afterFlush u (write host) = false
-afterFlush u powerOn = false
-afterFlush u hardReset = false
-afterFlush u softReset = false
-afterFlush u (startStop host cdb) = false
-afterFlush u (next host) = hasFlushed (slotOf (u .slots) host)
-afterFlush u (answer host reply) = hasFlushed (slotOf (u .slots) host)
-afterFlush u (requestSense host buffer) = false
-afterFlush u (logPage buffer) = false
+afterFlush u c =
+    (sameKind c (next 0) || sameKind c (answer 0 Good)) && ofHost (λ host. hasFlushed (slotOf (u .slots) host)) (reachOf c)
 
 -- It then does as on a record with the unsaved mark clear,
 abbrev pub unlooked : StepFunction
