@@ -16,13 +16,12 @@ use Rattle.bridge.specs.Operations.{registersOf, lastOf, dueFrom}
 use Rattle.bridge.specs.declared.Due.the-variants.{Flush}
 use Rattle.bridge.specs.declared.Reply.{Reply}
 use Rattle.bridge.specs.declared.Wanted.the-variants.{Wants}
-use Rattle.calls.specs.Calls.{next, outcome, run}
-use Rattle.runs.specs.Deeds.{Deed, begins, sends, goesOn, ends, does, aborts, refuses}
+use Rattle.calls.specs.Calls.{outcome, run}
 use Rattle.runs.specs.Past.{pastOf, cdbOf, heldAt255}
 use Rattle.runs.specs.Safe.{flushing, asksFlush}
 use Rattle.runs.specs.Commands.{AskedFor, CommandsSent}
-use Rattle.runs.proofs.Deeds.{Cases, by-deed}
-use Rattle.runs.proofs.Known.{straight-flushing, Reached, Noted, Known, known-after}
+use Rattle.runs.proofs.Deeds.{when-sent}
+use Rattle.runs.proofs.Known.{straight-flushing, Reached, Noted, known-after}
 
 -- An operation that begins with a flush is one whose CDB asks for it.
 begins-flushing : (t : Target) (without : Bool) (m : ℕ) → stageFor t without ≡ Flushing m → flushing (Wants t) without ≡ true
@@ -47,38 +46,13 @@ due-asked {cdb} {n} {answers} {q} noted unsaved = on (stageFor (q .target) (noFl
     on Straight e reached = inr (q .target, noted .wants, rw (reached .0))
     on (Flushing m) e reached = rw (reached .0) (either-one (eqb (heldAt255 n) 0 || unsaved) (asks m e))
 
--- What is said of a deed: a command handed out is asked for.
-abbrev Sent : List Deed → Deed → Type 0
-Sent past (begins host cdb) = Prim.Unit {0}
-Sent past (sends host q) = AskedFor (cdbOf host past) q
-Sent past (goesOn host reply) = Prim.Unit {0}
-Sent past (ends host reply report) = Prim.Unit {0}
-Sent past (does c) = Prim.Unit {0}
-Sent past (aborts c) = Prim.Unit {0}
-Sent past (refuses c) = Prim.Unit {0}
-
-sent : (past : List Deed) (u : Unit) → Known past u → Cases (λ d v. Sent past d) u
-sent past u known = record {
-  refused = λ c. tt;
-  aborted = λ q a. tt;
-  begun = λ host cdb t clear wants. tt;
-  asked = λ host q clear waits. due-asked (known .1 host q waits) (u .unsaved);
-  flushed = λ host q taken f. tt;
-  flush-failed = λ host q taken f. tt;
-  last-succeeded = λ host reply q taken f g. tt;
-  last-failed = λ host reply q taken f g. tt;
-  epc = λ q clear. tt;
-  ticks = tt;
-  reads = λ host clear. tt;
-  writes = λ host clear. tt;
-  powers-on = tt;
-  resets-hard = tt;
-  resets-soft = tt;
-  tells = λ host buffer clear. tt;
-  logs = λ buffer clear. tt;
-}
-
 -- Whatever a host is handed is asked for by the CDB of its operation.
 pub commands-sent : CommandsSent outcome
-commands-sent u cs host q fine none e =
-    rw e at (by-deed (λ d v. Sent (pastOf u cs) d) (run u cs) (sent (pastOf u cs) (run u cs) (known-after u fine none cs)) (next host))
+commands-sent u cs host q fine none =
+    let known = known-after u fine none cs in
+    when-sent (λ k r. AskedFor (cdbOf k (pastOf u cs)) r) (λ k reply report v. Prim.Unit {0}) (run u cs) (record {
+      asked = λ k p waits. due-asked (known .1 k p waits) (run u cs .unsaved);
+      flush-failed = λ k p taken f. tt;
+      last-succeeded = λ k reply p taken f g. tt;
+      last-failed = λ k reply p taken f g. tt;
+    }) host q

@@ -27,6 +27,7 @@ use Rattle.bridge.specs.declared.Reply.{Reply}
 use Rattle.bridge.specs.declared.Reply.the-variants.{Good, Bad}
 use Rattle.bridge.specs.declared.Next.the-variants.{Send, NotSent}
 use Rattle.bridge.specs.declared.Progress.the-variants.{More, Ended, NotTaken}
+use Rattle.bridge.specs.declared.Report.{Report}
 use Rattle.bridge.specs.declared.Replied.{Replied}
 use Rattle.calls.specs.Calls.{Call, setFeatures, tick, read, write, powerOn, hardReset, softReset, startStop, next, answer, requestSense, logPage, Said, plain, accepted, sent, progressed, outcome, step}
 use Rattle.calls.specs.Kinds.{isReset}
@@ -202,6 +203,59 @@ module _ (P : Deed → Unit → Type 0) (u : Unit) (cases : Cases P u) where
   by-deed (answer host reply) = answers host reply
   by-deed (requestSense host buffer) = other (requestSense host buffer) (cases .tells host buffer) never
   by-deed (logPage buffer) = other (logPage buffer) (cases .logs buffer) never
+
+-- ---- a command handed out, and the end of an operation
+
+-- A fact of a command that is handed out, and one of an end report with the record after it, hold in every way that these come about.
+pub record Tellings (S : ℕ → Registers → Type 0) (E : ℕ → Reply → Report → Unit → Type 0) (u : Unit) : Type 0 where
+  pub asked : (host : ℕ) (q : Request) → slotOf (u .slots) host ≡ Waiting q → S host (registersOf (dueFrom (u .unsaved) q))
+  pub flush-failed : (host : ℕ) (q : Request) → Taken u host q → isFlush (dueFrom (u .unsaved) q) ≡ true
+      → let n = oneMore (flushesOf (q .stage)) in
+      E host Bad (reportFailed (q .immed) CommandSequence n) (failed u host q CommandSequence n .unit)
+  pub last-succeeded : (host : ℕ) (reply : Reply) (q : Request) → Taken u host q → isFlush (dueFrom (u .unsaved) q) ≡ false
+      → countsAsGood (q .target) reply ≡ true → E host reply (reportGood (q .immed) (flushesOf (q .stage))) (succeeded u host q .unit)
+  pub last-failed : (host : ℕ) (reply : Reply) (q : Request) → Taken u host q → isFlush (dueFrom (u .unsaved) q) ≡ false
+      → countsAsGood (q .target) reply ≡ false → let n = flushesOf (q .stage) in
+      E host reply (reportFailed (q .immed) CommandSequence n) (failed u host q CommandSequence n .unit)
+
+module _ (S : ℕ → Registers → Type 0) (E : ℕ → Reply → Report → Unit → Type 0) (u : Unit) (tellings : Tellings S E u) where
+  abbrev Told : Deed → Unit → Type 0
+  Told (begins host cdb) v = Prim.Unit {0}
+  Told (sends host q) v = S host q
+  Told (goesOn host reply) v = Prim.Unit {0}
+  Told (ends host reply report) v = E host reply report v
+  Told (does c) v = Prim.Unit {0}
+  Told (aborts c) v = Prim.Unit {0}
+  Told (refuses c) v = Prim.Unit {0}
+
+  told : (c : Call) → Told (deedAt u c) (step u c)
+  told = by-deed Told u (record {
+    refused = λ c. tt;
+    aborted = λ q ten. tt;
+    begun = λ host cdb t clear wants. tt;
+    asked = λ host q clear. tellings .asked host q;
+    flushed = λ host q taken f. tt;
+    flush-failed = tellings .flush-failed;
+    last-succeeded = tellings .last-succeeded;
+    last-failed = tellings .last-failed;
+    epc = λ q clear. tt;
+    ticks = tt;
+    reads = λ host clear. tt;
+    writes = λ host clear. tt;
+    powers-on = tt;
+    resets-hard = tt;
+    resets-soft = tt;
+    tells = λ host buffer clear. tt;
+    logs = λ buffer clear. tt;
+  })
+
+  -- So they hold of the command that a host is handed, and of the end report that an answer brings.
+  pub when-sent : (host : ℕ) (q : Registers) → deedAt u (next host) ≡ sends host q → S host q
+  when-sent host q e = rw e at (told (next host))
+
+  pub when-ended : (host : ℕ) (reply : Reply) (report : Report) → deedAt u (answer host reply) ≡ ends host reply report
+      → E host reply report (step u (answer host reply))
+  when-ended host reply report e = rw e at (told (answer host reply))
 
 -- ---- only a reset comes to the deed of a reset
 

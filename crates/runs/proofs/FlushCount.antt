@@ -2,7 +2,7 @@
 -- 255; so the end report does, with the flush that a bad answer was for.
 use mathlib.Core.Path.{_≡_, refl}
 use mathlib.Core.Bool.{true, false, _&&_, cond}
-use mathlib.Core.List.{List, _∷_}
+use mathlib.Core.List.{List}
 use Prim.Native.Nat.{ℕ, suc}
 use lib.Dec.{eqb}
 use borrow.Author.Tests.{eq-eqb}
@@ -15,11 +15,12 @@ use Rattle.unit.specs.declared.Unit.{Unit}
 use Rattle.bridge.specs.Cdb.{noFlush, stageFor}
 use Rattle.bridge.specs.Operations.{dueFrom, isFlush, oneMore, flushesOf}
 use Rattle.bridge.specs.declared.Reply.{Reply}
+use Rattle.bridge.specs.declared.Report.{Report}
 use Rattle.calls.specs.Calls.{answer, outcome, run}
-use Rattle.runs.specs.Deeds.{Deed, begins, sends, goesOn, ends, does, aborts, refuses}
+use Rattle.runs.specs.Deeds.{Deed, ends}
 use Rattle.runs.specs.Past.{pastOf, flushSent, flushesAnswered, heldAt255}
 use Rattle.runs.specs.FlushCount.{FlushCount}
-use Rattle.runs.proofs.Deeds.{Taken, Cases, by-deed}
+use Rattle.runs.proofs.Deeds.{Taken, deedAt, when-ended}
 use Rattle.runs.proofs.Known.{Reached, Noted, Known, counts-on, sent-due, known-after}
 
 -- ---- a waiting operation
@@ -37,16 +38,6 @@ waiting-counts past u known host q waits = noted-counts (known .1 host q waits)
 
 -- ---- its end report
 
--- What is said of a deed: the report of an operation that is over carries the flushes answered for it, this answer counted.
-abbrev ReportCounts : List Deed → Deed → Type 0
-ReportCounts past (begins host cdb) = Prim.Unit {0}
-ReportCounts past (sends host q) = Prim.Unit {0}
-ReportCounts past (goesOn host reply) = Prim.Unit {0}
-ReportCounts past (ends host reply report) = report .flushes ≡ heldAt255 (flushesAnswered host (ends host reply report ∷ past))
-ReportCounts past (does c) = Prim.Unit {0}
-ReportCounts past (aborts c) = Prim.Unit {0}
-ReportCounts past (refuses c) = Prim.Unit {0}
-
 module _ (past : List Deed) (u : Unit) (known : Known past u) where
   -- the flushes answered once the host's command that is out is answered too
   abbrev answeredNow : ℕ → ℕ
@@ -63,34 +54,20 @@ module _ (past : List Deed) (u : Unit) (known : Known past u) where
   last-counts host q taken f =
       rw (eq-eqb host host refl, sent-due past u known host q taken, f) (waiting-counts past u known host q (taken .waiting))
 
-  reports : Cases (λ d v. ReportCounts past d) u
-  reports = record {
-    refused = λ c. tt;
-    aborted = λ q a. tt;
-    begun = λ host cdb t clear wants. tt;
-    asked = λ host q clear waits. tt;
-    flushed = λ host q taken f. tt;
+  -- The report of an operation that is over carries the flushes answered for it, this answer counted.
+  report-counts : (host : ℕ) (reply : Reply) (report : Report) → deedAt u (answer host reply) ≡ ends host reply report
+      → report .flushes ≡ heldAt255 (answeredNow host)
+  report-counts = when-ended (λ host q. Prim.Unit {0}) (λ host reply report v. report .flushes ≡ heldAt255 (answeredNow host)) u (record {
+    asked = λ host q waits. tt;
     flush-failed = flush-counts;
     last-succeeded = λ host reply q taken f g. last-counts host q taken f;
     last-failed = λ host reply q taken f g. last-counts host q taken f;
-    epc = λ q clear. tt;
-    ticks = tt;
-    reads = λ host clear. tt;
-    writes = λ host clear. tt;
-    powers-on = tt;
-    resets-hard = tt;
-    resets-soft = tt;
-    tells = λ host buffer clear. tt;
-    logs = λ buffer clear. tt;
-  }
+  })
 
 -- ---- over any run
 
 -- A waiting operation's progress and an end report's count are the number of flushes answered, held at 255.
 pub flush-count : FlushCount outcome
 flush-count u cs host fine none =
-    let known = known-after u fine none cs in (
-      waiting-counts (pastOf u cs) (run u cs) known host,
-      λ reply report e.
-          rw e at (by-deed (λ d v. ReportCounts (pastOf u cs) d) (run u cs) (reports (pastOf u cs) (run u cs) known) (answer host reply)),
-    )
+    let known = known-after u fine none cs in
+    (waiting-counts (pastOf u cs) (run u cs) known host, report-counts (pastOf u cs) (run u cs) known host)

@@ -28,13 +28,13 @@ use Rattle.bridge.specs.declared.Reply.{Reply}
 use Rattle.bridge.specs.declared.Reply.the-variants.{Bad}
 use Rattle.bridge.specs.declared.Report.{Report}
 use Rattle.bridge.specs.declared.Status.the-variants.{NoStatus, GoodStatus, CheckCondition}
-use Rattle.calls.specs.Calls.{Call, startStop, answer, outcome, step, run}
+use Rattle.calls.specs.Calls.{startStop, answer, outcome, step, run}
 use Rattle.calls.proofs.Numbers.{clear-none}
 use Rattle.calls.proofs.WellFormed.{unit-fine, well-formed-kept, run-well-formed}
-use Rattle.runs.specs.Deeds.{Deed, begins, sends, goesOn, ends, does, aborts, refuses}
+use Rattle.runs.specs.Deeds.{ends}
 use Rattle.runs.specs.Reports.{fails, EndReported}
 use Rattle.runs.proofs.Slots.{waiting-same}
-use Rattle.runs.proofs.Deeds.{Taken, deedAt, by-deed}
+use Rattle.runs.proofs.Deeds.{Taken, deedAt, when-ended}
 use Rattle.runs.proofs.HeldSenses.{held-inside, own-held, heldAfter, failed-held}
 use Rattle.runs.proofs.Fates.{begun-said, one-fate}
 
@@ -54,15 +54,6 @@ pub record Closes (u : Unit) (host : ℕ) (reply : Reply) (report : Report) (v :
   pub sense : report .sense ≡ cond (fails (Wants (request .target)) reply) (WithSense (failureSense CommandSequence)) NoSense
   pub held : (s : Sense) → report .status ≡ NoStatus → report .sense ≡ WithSense s
       → (f : Failure) × (heldOf (v .held) host ≡ Holds f) × (failureSense f ≡ s)
-
-abbrev EndTells : Unit → Deed → Unit → Type 0
-EndTells u (begins host cdb) v = Prim.Unit {0}
-EndTells u (sends host q) v = Prim.Unit {0}
-EndTells u (goesOn host reply) v = Prim.Unit {0}
-EndTells u (ends host reply report) v = Closes u host reply report v
-EndTells u (does c) v = Prim.Unit {0}
-EndTells u (aborts c) v = Prim.Unit {0}
-EndTells u (refuses c) v = Prim.Unit {0}
 
 module _ (u : Unit) (fine : wellFormed u ≡ true) where
   module _ (host : ℕ) (reply : Reply) (q : Request) (taken : Taken u host q) where
@@ -101,30 +92,14 @@ module _ (u : Unit) (fine : wellFormed u ≡ true) where
       failed-closes host Bad q taken (oneMore (flushesOf (q .stage)))
       (bad-flush (u .drive .records) (q .target) (q .stage) (u .unsaved) request f)
 
-  end-tells : (c : Call) → EndTells u (deedAt u c) (step u c)
-  end-tells = by-deed (EndTells u) u (record {
-    refused = λ c. tt;
-    aborted = λ q a. tt;
-    begun = λ host cdb t clear wants. tt;
-    asked = λ host q clear waits. tt;
-    flushed = λ host q taken f. tt;
+  pub closes : (host : ℕ) (reply : Reply) (report : Report) → deedAt u (answer host reply) ≡ ends host reply report
+      → Closes u host reply report (step u (answer host reply))
+  closes = when-ended (λ host q. Prim.Unit {0}) (Closes u) u (record {
+    asked = λ host q waits. tt;
     flush-failed = flush-failed-closes;
     last-succeeded = λ host reply q taken f. succeeded-closes host reply q taken (flushesOf (q .stage)) _;
     last-failed = λ host reply q taken f. failed-closes host reply q taken (flushesOf (q .stage));
-    epc = λ q clear. tt;
-    ticks = tt;
-    reads = λ host clear. tt;
-    writes = λ host clear. tt;
-    powers-on = tt;
-    resets-hard = tt;
-    resets-soft = tt;
-    tells = λ host buffer clear. tt;
-    logs = λ buffer clear. tt;
   })
-
-  pub closes : (host : ℕ) (reply : Reply) (report : Report) → deedAt u (answer host reply) ≡ ends host reply report
-      → Closes u host reply report (step u (answer host reply))
-  closes host reply report e = rw e at (end-tells (answer host reply))
 
 -- The acceptance and the end report say what the CDB and the last answer make them say.
 pub end-reported : EndReported outcome
