@@ -24,14 +24,18 @@ Spared nobody u v = (v .slots ≡ u .slots) × (v .held ≡ u .held)
 Spared (only host) u v = (k : ℕ) → (k ≡ host → ⊥) → SameFor k u v
 Spared everybody u v = Prim.Unit {0}
 
+-- The value set at a host's place, and the values at every other.
 pub own-slot : (slots : List HostSlot) (host : ℕ) (s : Slot) → host < length slots → slotOf (set slots host (record { slot = s })) host ≡ s
 own-slot slots host s h = ap (λ (x : HostSlot). x .slot) (getD-set-same slots host (record { slot = s }) emptySlot h)
+
+pub own-held : (helds : List HostHeld) (host : ℕ) (h : Held) → host < length helds → heldOf (set helds host (record { held = h })) host ≡ h
+own-held helds host h below = ap (λ (x : HostHeld). x .held) (getD-set-same helds host (record { held = h }) noneHeld below)
 
 module _ (host k : ℕ) (other : k ≡ host → ⊥) where
   pub other-slot : (slots : List HostSlot) (s : Slot) → slotOf (set slots host (record { slot = s })) k ≡ slotOf slots k
   other-slot slots s = ap (λ (x : HostSlot). x .slot) (getD-set-other slots host k (record { slot = s }) emptySlot other)
 
-  other-held : (helds : List HostHeld) (h : Held) → heldOf (set helds host (record { held = h })) k ≡ heldOf helds k
+  pub other-held : (helds : List HostHeld) (h : Held) → heldOf (set helds host (record { held = h })) k ≡ heldOf helds k
   other-held helds h = ap (λ (x : HostHeld). x .held) (getD-set-other helds host k (record { held = h }) noneHeld other)
 
 -- No call changes the slot or the held sense of a host that is out of its reach.

@@ -6,13 +6,12 @@ use Prim.Native.Nat.{ℕ, suc}
 use native.Mathlib.Omega.{arith}
 use lib.Dec.{eqb}
 use lib.ListN.{set}
-use lib.Seq.{getD-set-other}
 use borrow.Author.Tests.{eqb-false, not-true}
 use Rattle.rows.specs.Rows.{everyAt}
 use Rattle.rows.proofs.Places.{and-left, and-right}
 use Rattle.epc.proofs.Effects.{either}
 use Rattle.pages.specs.Senses.{senseBytes}
-use Rattle.unit.specs.Units.{noneHeld, heldOf, isOut, wellFormed}
+use Rattle.unit.specs.Units.{heldOf, isOut, wellFormed}
 use Rattle.unit.specs.Refusals.{numberOf}
 use Rattle.unit.specs.Calls.{senseRows, failureSense, toldBytes}
 use Rattle.unit.specs.declared.Request.{Request}
@@ -29,11 +28,12 @@ use Rattle.bridge.specs.declared.Reply.{Reply}
 use Rattle.bridge.specs.declared.Reply.the-variants.{Bad}
 use Rattle.calls.specs.Calls.{Call, tick, startStop, answer, requestSense, outcome, step, run, history}
 use Rattle.calls.proofs.Numbers.{clear-none, own-told, acceptance-does}
+use Rattle.calls.proofs.Hosts.{own-held, other-held}
 use Rattle.calls.proofs.WellFormed.{well-formed-kept, run-well-formed}
 use Rattle.runs.specs.Deeds.{Deed, ends, does, aborts, refuses, another, deeds}
 use Rattle.runs.specs.Reports.{keepsHeld, HeldTold, FailureTold}
 use Rattle.runs.proofs.Deeds.{deedAt, by-deed}
-use Rattle.runs.proofs.HeldSenses.{held-inside, own-held, heldAfter, failed-held}
+use Rattle.runs.proofs.HeldSenses.{held-inside, heldAfter, failed-held}
 use Rattle.runs.proofs.Reports.{closes, end-reported}
 
 -- ---- the held sense stays
@@ -43,10 +43,8 @@ module _ (k : ℕ) where
     abbrev Kept : Deed → Unit → Type 0
     Kept d v = keepsHeld k d ≡ true → heldOf (v .held) k ≡ heldOf (u .held) k
 
-    other-held : (host : ℕ) (h : Held) → eqb host k ≡ false → heldOf (set (u .held) host (record { held = h })) k ≡ heldOf (u .held) k
-    other-held host h other =
-        ap (λ (x : HostHeld). x .held)
-        (getD-set-other (u .held) host k (record { held = h }) noneHeld (λ same. eqb-false host k other (sym same)))
+    spared : (host : ℕ) (h : Held) → eqb host k ≡ false → heldOf (set (u .held) host (record { held = h })) k ≡ heldOf (u .held) k
+    spared host h other = other-held host k (λ same. eqb-false host k other (sym same)) (u .held) h
 
     -- A failure that is held is another host's.
     failed-kept : (host : ℕ) (reply : Reply) (q : Request) (n : ℕ)
@@ -55,7 +53,7 @@ module _ (k : ℕ) where
       where
         on : (b : Bool) → keepsHeld k (ends host reply (reportFailed b CommandSequence n)) ≡ true
             → heldOf (heldAfter (u .held) host b) k ≡ heldOf (u .held) k
-        on true h = other-held host (Holds CommandSequence) (apart (eqb host k) h)
+        on true h = spared host (Holds CommandSequence) (apart (eqb host k) h)
           where
             apart : (b : Bool) → (not (b && true) && true && true) ≡ true → b ≡ false
             apart true h = absurd (false≢true h)
@@ -79,7 +77,7 @@ module _ (k : ℕ) where
       powers-on = λ h. absurd (false≢true h);
       resets-hard = λ h. absurd (false≢true h);
       resets-soft = λ h. absurd (false≢true h);
-      tells = λ host buffer clear h. other-held host Nothing (not-true (eqb host k) h);
+      tells = λ host buffer clear h. spared host Nothing (not-true (eqb host k) h);
       logs = λ buffer clear h. refl;
     })
 

@@ -1,18 +1,16 @@
--- Laws about the held senses: one that is set, and what a failure leaves held.
-use mathlib.Core.Path.{_≡_, refl, ap}
+-- Laws about the held senses: how many there are, and what a failure leaves held.
+use mathlib.Core.Path.{_≡_, refl}
 use mathlib.Core.Bool.{Bool, true, false, cond}
 use mathlib.Core.List.{List}
 use Prim.Native.Nat.{ℕ, _<_}
 use native.Mathlib.Omega.{arith}
 use lib.Dec.{ltb}
 use lib.ListN.{length, set}
-use lib.Seq.{getD-set-same}
 use borrow.Author.Tests.{ltb-false}
 use Rattle.drive.specs.declared.Power.the-variants.{Active}
-use Rattle.unit.specs.Units.{noneHeld, heldOf, wellFormed, withSlot}
+use Rattle.unit.specs.Units.{wellFormed, withSlot}
 use Rattle.unit.specs.declared.Request.{Request}
 use Rattle.unit.specs.declared.Slot.the-variants.{Empty}
-use Rattle.unit.specs.declared.Held.{Held}
 use Rattle.unit.specs.declared.Held.the-variants.{Holds}
 use Rattle.unit.specs.declared.HostHeld.{HostHeld}
 use Rattle.unit.specs.declared.Failure.the-variants.{CommandSequence}
@@ -22,9 +20,6 @@ use Rattle.calls.proofs.WellFormed.{unit-fine}
 
 pub held-inside : (u : Unit) (host : ℕ) → wellFormed u ≡ true → ltb 3 host ≡ false → host < length (u .held)
 held-inside u host fine h = omega (arith, unit-fine u .0 fine .held, ltb-false 3 host h)
-
-pub own-held : (helds : List HostHeld) (host : ℕ) (h : Held) → host < length helds → heldOf (set helds host (record { held = h })) host ≡ h
-own-held helds host h below = ap (λ (x : HostHeld). x .held) (getD-set-same helds host (record { held = h }) noneHeld below)
 
 -- A failure is held with IMMED, and only then.
 abbrev pub heldAfter : List HostHeld → ℕ → Bool → List HostHeld

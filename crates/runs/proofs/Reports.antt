@@ -30,12 +30,13 @@ use Rattle.bridge.specs.declared.Report.{Report}
 use Rattle.bridge.specs.declared.Status.the-variants.{NoStatus, GoodStatus, CheckCondition}
 use Rattle.calls.specs.Calls.{startStop, answer, outcome, step, run}
 use Rattle.calls.proofs.Numbers.{clear-none}
+use Rattle.calls.proofs.Hosts.{own-held}
 use Rattle.calls.proofs.WellFormed.{unit-fine, well-formed-kept, run-well-formed}
 use Rattle.runs.specs.Deeds.{ends}
 use Rattle.runs.specs.Reports.{fails, EndReported}
 use Rattle.runs.proofs.Slots.{waiting-same}
 use Rattle.runs.proofs.Deeds.{Taken, deedAt, when-ended}
-use Rattle.runs.proofs.HeldSenses.{held-inside, own-held, heldAfter, failed-held}
+use Rattle.runs.proofs.HeldSenses.{held-inside, heldAfter, failed-held}
 use Rattle.runs.proofs.Fates.{begun-said, one-fate}
 
 -- A start sends no flush, so a bad flush is a failure.
