@@ -86,7 +86,7 @@ pub fn place_of(c: Condition) -> usize
     }
 }
 
-fn condition_at(place: usize) -> Condition
+pub fn condition_at(place: usize) -> Condition
     requires { ⌜ place < 5 ⌝ }
     ensures { λ r. ⌜ r ≡ conditionAt place ⌝ }
 {
@@ -100,7 +100,7 @@ fn condition_at(place: usize) -> Condition
     falling[place]
 }
 
-fn depth_of(p: Power) -> usize
+pub fn depth_of(p: Power) -> usize
     ensures { λ r. ⌜ r ≡ depth p ⌝ }
 {
     match p {

@@ -4,4 +4,5 @@ pub mod Last
 pub mod Mapped
 pub mod Places
 pub mod Some
+pub mod Values
 pub mod Written

@@ -624,7 +624,7 @@ pub fn set_features(u: Unit, q: Registers) -> Called
     )
 }
 
-fn held_of(held: [HostHeld; 4], host: u32) -> Held
+pub fn held_of(held: [HostHeld; 4], host: u32) -> Held
     ensures { λ r. ⌜ r ≡ heldOf held host ⌝ }
 {
     if host < 4 {

@@ -1,0 +1,4 @@
+pub mod Parts
+pub mod RoundTrip
+pub mod Sessions
+pub mod Spelling

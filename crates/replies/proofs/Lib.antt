@@ -1,0 +1,5 @@
+pub mod Buffers
+pub mod LogPage
+pub mod ReadBack
+pub mod Sizes
+pub mod Ticking

@@ -1,0 +1,73 @@
+-- Lines that `show` prints are read back as the parts that they were printed from: each is printed and read by computing.
+use mathlib.Core.Path.{_≡_, refl}
+use mathlib.Core.Bool.{Bool, true, false}
+use mathlib.Core.List.{List, [], _∷_, map}
+use Prim.Native.Nat.{ℕ}
+use Rattle.drive.specs.Records.{unsupported}
+use Rattle.drive.specs.declared.Cause.the-variants.{Timer, Command}
+use Rattle.drive.specs.declared.Condition.the-variants.{IdleA, IdleB, StandbyY, StandbyZ}
+use Rattle.drive.specs.declared.Power.{Power}
+use Rattle.drive.specs.declared.Power.the-variants.{Active, Low}
+use Rattle.drive.specs.declared.Record.{Record}
+use Rattle.drive.specs.declared.Setting.{Setting}
+use Rattle.unit.specs.declared.Failure.the-variants.{CommandSequence}
+use Rattle.unit.specs.declared.Held.the-variants.{Nothing, Holds}
+use Rattle.unit.specs.declared.Out.the-variants.{NoneOut, OutFor}
+use Rattle.unit.specs.declared.Slot.the-variants.{Empty, Waiting}
+use Rattle.unit.specs.declared.Stage.{Stage}
+use Rattle.unit.specs.declared.Stage.the-variants.{Straight, Flushing}
+use Rattle.unit.specs.declared.Target.{Target}
+use Rattle.unit.specs.declared.Target.the-variants.{Stop, Start, GoTo}
+use Rattle.words.specs.Lines.{beforeReturn}
+use Rattle.words.specs.Numbers.{areDigits, valueAfter, isNumber, numberOf, flagOf}
+use Rattle.words.specs.Words.{pieces, nonempty, words, wordAt, placeIn}
+use Rattle.digits.specs.Numerals.{numeral, pairs}
+use Rattle.asked.specs.declared.Line.the-variants.{Sets}
+use Rattle.asked.specs.declared.Part.{Part}
+use Rattle.asked.specs.declared.Part.the-variants.{Settings, Stands, HasSlot, HasHeld, HasOut}
+use Rattle.script.specs.Lines.{askedBy, lineOf}
+use Rattle.script.specs.Parts.{conditionLine, stateLine, slotLine, heldLine, outLine}
+use Rattle.blocks.specs.Spelling.{partText}
+
+abbrev setting : Bool → ℕ → Setting
+setting enabled timer = record { enabled = enabled; timer = record { 0 = timer } }
+
+-- Every number the largest that its word holds.
+abbrev largest : Record
+largest = record {
+  supported = true;
+  saveable = false;
+  changeable = true;
+  recovery = record { 0 = 0xFFFFFFFF };
+  default = setting true 0xFFFFFFFF;
+  saved = setting false 0xFFFFFFFF;
+  current = setting true 0xFFFFFFFF;
+}
+
+abbrev stands : Power → ℕ → Bool → Bool → Part
+stands power idle stopped unsaved =
+    Stands (record { power = power; idle = record { 0 = idle }; stopped = stopped; unsaved = unsaved })
+
+abbrev waits : ℕ → Target → Bool → Stage → Part
+waits host target immed stage = HasSlot host (Waiting (record { target = target; immed = immed; stage = stage }))
+
+abbrev samples : List Part
+samples =
+    Settings StandbyY largest
+    ∷ Settings IdleA unsupported
+    ∷ stands Active 0 false false
+    ∷ stands (Low StandbyZ Command) 0xFFFFFFFF true false
+    ∷ stands (Low IdleB Timer) 0x1A false true
+    ∷ HasSlot 0 Empty
+    ∷ waits 1 Start false Straight
+    ∷ waits 2 Stop true (Flushing 0)
+    ∷ waits 3 (GoTo StandbyZ) true (Flushing 0xFF)
+    ∷ HasHeld 0 Nothing
+    ∷ HasHeld 3 (Holds CommandSequence)
+    ∷ HasOut NoneOut
+    ∷ HasOut (OutFor 0xFF)
+    ∷ []
+
+pub read-back : map (λ p. lineOf (partText p)) samples ≡ map Sets samples
+unfolding numeral pairs partText beforeReturn pieces nonempty words wordAt placeIn areDigits valueAfter isNumber numberOf flagOf lineOf askedBy conditionLine stateLine slotLine heldLine outLine
+read-back = refl

@@ -1,0 +1,199 @@
+-- No answer has more than 4,096 bytes. A line is cut at 128 of them: `show` has 17 lines and the table 16. The bytes that `sense` and `log`
+-- print are at most 1,024, with two digits each, between two texts that are cut too.
+use mathlib.Core.Path.{_≡_, refl}
+use mathlib.Core.Bool.{Bool, true, false, cond, not}
+use mathlib.Core.List.{List, [], _∷_, _++_, map}
+use Prim.Native.Char.{code}
+use Prim.Native.Nat.{ℕ, _+_, _*_, _≤_}
+use native.Mathlib.Omega.{arith}
+use borrow.Author.Tests.{ltb-true}
+use lib.Dec.{eqb, ltb}
+use lib.ListN.{length, length-append, length-replicate, length-take}
+use Rattle.rows.proofs.Places.{and-left}
+use Rattle.drive.specs.Records.{largest}
+use Rattle.drive.proofs.WellFormed.{drive-five}
+use Rattle.pages.specs.Logs.{logPage}
+use Rattle.pages.specs.Senses.{senseBytes}
+use Rattle.pages.proofs.Page.{page-512}
+use Rattle.unit.specs.Calls.{Filled, filled, toldBytes, epcOutcome, readOutcome, writeOutcome, powerOnOutcome, resetOutcome, senseEffect, senseRows, senseOutcome, logRows, logOutcome}
+use Rattle.unit.specs.Refusals.{_gives_, lowest}
+use Rattle.unit.specs.declared.Refusal.the-variants.{BadLength, BadRecord}
+use Rattle.unit.specs.Units.{heldOf, wellFormed}
+use Rattle.unit.specs.declared.Held.{Held}
+use Rattle.unit.specs.declared.Held.the-variants.{Nothing, Holds}
+use Rattle.unit.specs.declared.Answer.{Answer}
+use Rattle.unit.specs.declared.Called.{Called}
+use Rattle.unit.specs.declared.Unit.{Unit}
+use Rattle.unit.specs.declared.Verdict.{Verdict}
+use Rattle.unit.specs.declared.Verdict.the-variants.{Clear, Given}
+use Rattle.bridge.specs.Bridge.{startStopOutcome, nextOutcome, answerOutcome}
+use Rattle.words.specs.Codes.{codes}
+use Rattle.digits.specs.Numerals.{bytesText}
+use Rattle.digits.specs.Sheets.{joined, lineText}
+use Rattle.digits.specs.Texts.{cut}
+use Rattle.digits.proofs.Digits.{pairs-length}
+use Rattle.asked.specs.declared.Call.{Call}
+use Rattle.asked.specs.declared.Call.the-variants.{Tick, Epc, Read, Write, PowerOn, HardReset, SoftReset, StartStop, Next, Answer as AnswerCall, Sense, Log}
+use Rattle.asked.specs.declared.Line.{Line}
+use Rattle.asked.specs.declared.Line.the-variants.{Blank, Wrong, Asks, Sets, Opens, Closes, Shows, Tables}
+use Rattle.asked.specs.declared.Part.{Part}
+use Rattle.blocks.specs.Parts.{partsOf}
+use Rattle.blocks.specs.Sessions.{drafted, closed}
+use Rattle.blocks.specs.Spelling.{partText, partLines, shown}
+use Rattle.blocks.specs.declared.Session.{Session}
+use Rattle.script.specs.Calls.{cdbIn}
+use Rattle.script.specs.Lines.{lineIn, lineOf}
+use Rattle.table.specs.Table.{texts, tableLines}
+use Rattle.replies.specs.Answers.{calledText, acceptedText, sentText, progressText, beforeBytes}
+use Rattle.replies.specs.Lines.{isEnd, silent, okOrError, saysOk, inBlock, outside, response}
+use Rattle.replies.specs.Replies.{calledReply, ticks, lentLen, lent, filledPieces, filledReply, callReply}
+
+-- ---- lines
+
+abbrev Small : List (List ℕ) → Type 0
+Small ls = length (joined ls) ≤ 128 * length ls
+
+cut-small : (bs : List ℕ) → length (cut bs) ≤ 128
+unfolding cut
+cut-small bs = rw length-take (omega arith)
+
+line-more : (t : List ℕ) (ls : List (List ℕ)) → Small ls → Small (lineText t ∷ ls)
+line-more t ls h = rw length-append (omega (arith, cut-small (t ++ (code "\n" ∷ []))))
+
+parts-small : (ps : List Part) (ls : List (List ℕ)) → Small ls → Small (partLines ps ++ ls)
+parts-small [] ls h = h
+parts-small (p ∷ ps) ls h = line-more (partText p) (partLines ps ++ ls) (parts-small ps ls h)
+
+lines-small : (ts : List (List ℕ)) → Small (map lineText ts)
+lines-small [] = omega arith
+lines-small (t ∷ ts) = line-more t (map lineText ts) (lines-small ts)
+
+-- ---- all that a line prints
+
+abbrev Fits : List (List ℕ) → Type 0
+Fits ls = length (joined ls) ≤ 4096
+
+line-fits : (t : List ℕ) → Fits (lineText t ∷ [])
+line-fits t = omega (arith, line-more t [] (omega arith))
+
+shown-fits : (u : Unit) → Fits (shown u)
+unfolding shown
+shown-fits u =
+    let seventeen : length (shown u) ≡ 17 = refl in
+    let last = lineText (codes "end") ∷ [] in
+    let parts = parts-small (partsOf u) last (line-more (codes "end") [] (omega arith)) in
+    omega (arith, line-more (codes "unit") (partLines (partsOf u) ++ last) parts)
+
+table-fits : (u : Unit) → Fits (tableLines u)
+unfolding tableLines texts
+table-fits u =
+    let sixteen : length (map lineText (texts u)) ≡ 16 = refl in
+    omega (arith, lines-small (texts u))
+
+-- ---- the bytes that `sense` and `log` print
+
+lent-within : (len : ℕ) → length (lent len) ≤ 0x400
+lent-within len = rw (length-replicate {A = ℕ} (lentLen len) 0xA5) (on (ltb len 0x400) refl)
+  where
+    on : (t : Bool) → ltb len 0x400 ≡ t → cond t len 0x400 ≤ 0x400
+    on true e = omega (arith, ltb-true len 0x400 e)
+    on false e = omega arith
+
+filled-within : (u effect : Unit) (bytes buffer : List ℕ) (v : Verdict) → (v ≡ Clear → length bytes ≤ 0x400) → length buffer ≤ 0x400
+    → length (filled u effect bytes buffer v .buffer) ≤ 0x400
+filled-within u effect bytes buffer Clear h k = h refl
+filled-within u effect bytes buffer (Given r) h k = k
+
+told-within : (u : Unit) (h : Held) → length (toldBytes (u .drive .power) h) ≤ 0x400
+unfolding senseBytes
+told-within u Nothing = omega arith
+told-within u (Holds f) = omega arith
+
+sense-within : (u : Unit) (host : ℕ) (buffer : List ℕ) → length buffer ≤ 0x400 → length (senseOutcome u host buffer .buffer) ≤ 0x400
+unfolding senseOutcome
+sense-within u host buffer h =
+    let held = heldOf (u .held) host in
+    filled-within u (senseEffect host u) (toldBytes (u .drive .power) held) buffer (lowest (senseRows u host buffer)) (λ e. told-within u held) h
+
+-- A clear verdict says of each row that it does not apply: the record is well formed, so it has five conditions.
+five-records : (u : Unit) → wellFormed u ≡ true → length (u .drive .records) ≡ 5
+unfolding wellFormed
+five-records u e = drive-five largest (u .drive) (and-left _ _ (and-left _ _ e))
+
+rows-clear : (ok long : Bool) → lowest ((long gives BadLength) ∷ (not ok gives BadRecord) ∷ []) ≡ Clear → ok ≡ true
+unfolding lowest
+rows-clear true long e = refl
+rows-clear false true e = let z : _≡_ {A = ℕ} 0 1 = cc in absurd (omega arith)
+rows-clear false false e = let z : _≡_ {A = ℕ} 0 1 = cc in absurd (omega arith)
+
+log-clear : (u : Unit) (buffer : List ℕ) → lowest (logRows u buffer) ≡ Clear → wellFormed u ≡ true
+unfolding lowest
+log-clear u buffer e = rows-clear (wellFormed u) (not (eqb (length buffer) 512)) e
+
+log-within : (u : Unit) (buffer : List ℕ) → length buffer ≤ 0x400 → length (logOutcome u buffer .buffer) ≤ 0x400
+unfolding logOutcome
+log-within u buffer h =
+    let page = logPage (u .drive .records) in
+    let small : lowest (logRows u buffer) ≡ Clear → length page ≤ 0x400 = λ e. omega (arith, page-512 (u .drive .records) (five-records u (log-clear u buffer e))) in
+    filled-within u u page buffer (lowest (logRows u buffer)) small h
+
+bytes-within : (bs : List ℕ) → length bs ≤ 0x400 → length (bytesText bs) ≤ 2048
+bytes-within [] h = omega arith
+bytes-within (b ∷ bs) h = omega (arith, pairs-length (b ∷ bs))
+
+filled-fits : (a : Answer) (bs : List ℕ) → length bs ≤ 0x400 → Fits (filledPieces a bs)
+filled-fits a bs h =
+    let last = lineText [] ∷ [] in
+    rw (length-append (cut (beforeBytes a)) (joined (bytesText bs ∷ last)), length-append (bytesText bs) (joined last))
+    (omega (arith, cut-small (beforeBytes a), bytes-within bs h, line-more [] [] (omega arith)))
+
+-- ---- the answer
+
+called-fits : (c : Called) → Fits (calledReply c .pieces)
+called-fits c = line-fits (calledText (c .answer))
+
+reply-fits : (f : Filled) → length (f .buffer) ≤ 0x400 → Fits (filledReply f .pieces)
+reply-fits f h = filled-fits (f .called .answer) (f .buffer) h
+
+call-fits : (u : Unit) (c : Call) (text : List ℕ) → Fits (callReply u c text .pieces)
+unfolding callReply
+call-fits u (Tick n) text = called-fits (ticks n u)
+call-fits u (Epc q) text = called-fits (epcOutcome u q)
+call-fits u (Read host) text = called-fits (readOutcome u host)
+call-fits u (Write host) text = called-fits (writeOutcome u host)
+call-fits u PowerOn text = called-fits (powerOnOutcome u)
+call-fits u HardReset text = called-fits (resetOutcome u)
+call-fits u SoftReset text = called-fits (resetOutcome u)
+call-fits u (StartStop host) text = line-fits (acceptedText (startStopOutcome u host (cdbIn (lineIn text)) .answer))
+call-fits u (Next host) text = line-fits (sentText (nextOutcome u host .answer))
+call-fits u (AnswerCall host reply) text = line-fits (progressText (answerOutcome u host reply .answer))
+call-fits u (Sense host len) text = reply-fits (senseOutcome u host (lent len)) (sense-within u host (lent len) (lent-within len))
+call-fits u (Log len) text = reply-fits (logOutcome u (lent len)) (log-within u (lent len) (lent-within len))
+
+pub ok-fits : (good : Bool) → Fits (okOrError good)
+ok-fits good = line-fits (cond good (codes "ok") (codes "error"))
+
+outside-fits : (s : Session) (line : Line) (text : List ℕ) → Fits (outside s line text .pieces)
+outside-fits s Blank text = omega arith
+outside-fits s Wrong text = ok-fits false
+outside-fits s (Asks c) text = call-fits (s .unit) c text
+outside-fits s (Sets p) text = ok-fits false
+outside-fits s Opens text = omega arith
+outside-fits s Closes text = ok-fits false
+outside-fits s Shows text = shown-fits (s .unit)
+outside-fits s Tables text = table-fits (s .unit)
+
+block-fits : (s : Session) (line : Line) → Fits (inBlock s line .pieces)
+block-fits s line = on (isEnd line)
+  where
+    on : (t : Bool) → Fits (cond t (saysOk (s .good) (closed s)) (silent (drafted line s)) .pieces)
+    on true = ok-fits (s .good)
+    on false = omega arith
+
+pub answer-fits : (s : Session) (text : List ℕ) → Fits (response s text .pieces)
+unfolding response
+answer-fits s text = on (s .is_open)
+  where
+    on : (t : Bool) → Fits (cond t (inBlock s (lineOf text)) (outside s (lineOf text) text) .pieces)
+    on true = block-fits s (lineOf text)
+    on false = outside-fits s (lineOf text) text

@@ -1,0 +1,2 @@
+pub mod Cdbs
+pub mod Tables

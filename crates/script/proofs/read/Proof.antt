@@ -1,0 +1,30 @@
+-- The bytes handed on are the line without its CR.
+use mathlib.Core.Path.{sym}
+use borrow.Author.Tests.{lt-ltb, le-ltb}
+use lib.Seq.{length-take-le}
+use Rattle.script.specs.Lines.{lineOf}
+use Rattle.script.proofs.read.Statement.{statement}
+use Rattle.script.proofs.read.Tie as tie
+
+returns : tie.Need-returns
+unfolding lineOf
+returns c = rw (lt-ltb _ _ (c .if1 .taken))
+
+without-return-requires : tie.Need-without-return-requires
+without-return-requires c κs = tt
+
+slice-aggregate-asked-by : tie.Need-slice-aggregate-asked-by
+slice-aggregate-asked-by c = let e = c .before .without-return .ensures in sym (length-take-le _ _ (e .1))
+
+asked-by-requires : tie.Need-asked-by-requires
+asked-by-requires c κs = tt
+
+returns-2 : tie.Need-returns-2
+unfolding lineOf
+returns-2 c =
+    rw (le-ltb _ _ (c .before .before .before .if1 .left), ← c .before .before .without-return .ensures .0) (c .asked-by .ensures)
+
+pub read-spec : {M : Type 1} → statement M
+read-spec =
+    tie.close
+    (tie.spec returns without-return-requires slice-aggregate-asked-by asked-by-requires returns-2)

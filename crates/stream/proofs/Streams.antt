@@ -1,0 +1,140 @@
+-- Bytes are heard one after the other, so in whatever pieces: those before an LF only grow what is kept, and the LF behind them answers.
+-- What is printed is only added to, so it may be written out at any time.
+use mathlib.Core.Path.{_≡_, refl, sym, ap, _∙_}
+use mathlib.Core.Bool.{Bool, true, false, cond}
+use mathlib.Core.List.{List, [], _∷_, _++_, append-nil, append-assoc}
+use Prim.Native.Char.{code}
+use Prim.Native.Nat.{ℕ, zero, suc, _+_, _-_, _<_, _≤_}
+use native.Mathlib.Omega.{arith}
+use lib.Dec.{eqb}
+use lib.ListN.{length, getD, take, drop, length-drop, length-take}
+use lib.Seq.{take-all, take-add, take-suc, drop-drop}
+use Rattle.words.specs.Lines.{beforeFeed}
+use Rattle.digits.specs.Sheets.{joined}
+use Rattle.replies.specs.Lines.{response, okOrError}
+use Rattle.stream.specs.Streams.{Stream, answered, keeps, heard, heardAll, finished, unheard, emptied, writtenOut, InPieces, between}
+
+-- ---- piece by piece
+
+heard-pieces : (s : Stream) (a b : List ℕ) → heardAll s (a ++ b) ≡ heardAll (heardAll s a) b
+unfolding heardAll
+heard-pieces s [] b = refl
+heard-pieces s (x ∷ a) b = heard-pieces (heard s x) a b
+
+-- what is heard up to i, and then from i to j, is what is heard up to j
+pub heard-on : (s : Stream) {t u : Stream} (l : List ℕ) (from i j : ℕ) → from ≤ i → i ≤ j
+    → t ≡ heardAll s (between from i l) → u ≡ heardAll t (between i j l) → u ≡ heardAll s (between from j l)
+heard-on s l from i j h k first second =
+    let both : j - from ≡ (i - from) + (j - i) = omega arith in
+    let place : from + (i - from) ≡ i = omega arith in
+    rw (both, take-add, heard-pieces, drop-drop, place, ← first) second
+
+-- ---- up to an LF
+
+-- a stream that has kept these bytes too
+abbrev pub grown : Stream → List ℕ → Stream
+grown s more = record { session = s .session; kept = take 4001 (s .kept ++ more); printed = s .printed }
+
+take-twice : (n : ℕ) (a b : List ℕ) → take n (take n a ++ b) ≡ take n (a ++ b)
+take-twice zero a b = refl
+take-twice (suc n) [] b = refl
+take-twice (suc n) (x ∷ a) b = ap (_∷_ x) (take-twice n a b)
+
+grown-twice : (s : Stream) (b : ℕ) (more : List ℕ) → grown (keeps s b) more ≡ grown s (b ∷ more)
+grown-twice s b more = rw (take-twice, append-assoc)
+
+grown-none : (s : Stream) → length (s .kept) ≤ 4001 → grown s [] ≡ s
+grown-none s h = rw (append-nil, take-all 4001 (s .kept) h)
+
+grown-small : (s : Stream) (more : List ℕ) → length (grown s more .kept) ≤ 4001
+grown-small s more = rw length-take (omega arith)
+
+before-feed : (s : Stream) (bs : List ℕ) → length (s .kept) ≤ 4001
+    → heardAll s (take (beforeFeed bs) bs) ≡ grown s (take (beforeFeed bs) bs)
+unfolding heardAll beforeFeed
+before-feed s [] h = sym (grown-none s h)
+before-feed s (b ∷ bs) h = on (eqb b (code "\n")) refl (before-feed (keeps s b) bs (grown-small s (b ∷ [])))
+  where
+    on : (t : Bool) → eqb b (code "\n") ≡ t
+        → heardAll (keeps s b) (take (beforeFeed bs) bs) ≡ grown (keeps s b) (take (beforeFeed bs) bs)
+        → heardAll s (take (beforeFeed (b ∷ bs)) (b ∷ bs)) ≡ grown s (take (beforeFeed (b ∷ bs)) (b ∷ bs))
+    on true e rest = rw e (sym (grown-none s h))
+    on false e rest = rw (e, heardAll, e) (rest ∙ grown-twice s b (take (beforeFeed bs) bs))
+
+-- the byte behind them, if there is one, is the LF
+at-feed : (bs : List ℕ) → beforeFeed bs < length bs → eqb (getD bs (beforeFeed bs) 0) (code "\n") ≡ true
+unfolding beforeFeed
+at-feed [] h = absurd (omega arith)
+at-feed (b ∷ bs) h = on (eqb b (code "\n")) refl (at-feed bs)
+  where
+    on : (t : Bool) → eqb b (code "\n") ≡ t
+        → (beforeFeed bs < length bs → eqb (getD bs (beforeFeed bs) 0) (code "\n") ≡ true)
+        → eqb (getD (b ∷ bs) (beforeFeed (b ∷ bs)) 0) (code "\n") ≡ true
+    on true e rest = rw e e
+    on false e rest = let less : suc (beforeFeed bs) < suc (length bs) = rw e at h in rw e (rest (omega arith))
+
+-- ---- from a place of the input to the end of a line
+
+module _ (s : Stream) (l : List ℕ) (from end : ℕ) (e : end ≡ from + beforeFeed (drop from l)) where
+  spanned : end - from ≡ beforeFeed (drop from l)
+  spanned = omega arith
+
+  pub up-to-feed : length (s .kept) ≤ 4001 → heardAll s (between from end l) ≡ grown s (between from end l)
+  up-to-feed h = rw spanned (before-feed s (drop from l) h)
+
+  pub past-feed : end < length l → heardAll s (between from (end + 1) l) ≡ answered (heardAll s (between from end l))
+  unfolding heardAll
+  past-feed h =
+      let one : end + 1 - from ≡ suc (end - from) = omega arith in
+      let less : beforeFeed (drop from l) < length (drop from l) = rw length-drop (omega arith) in
+      rw (one, spanned, take-suc (drop from l) (beforeFeed (drop from l)) 0 less, heard-pieces, at-feed (drop from l) less)
+
+-- ---- written out piece by piece
+
+-- a stream that had printed this before
+abbrev behind : List ℕ → Stream → Stream
+behind front s = record { session = s .session; kept = s .kept; printed = front ++ s .printed }
+
+heard-behind : (front : List ℕ) (s : Stream) (bs : List ℕ) → heardAll (behind front s) bs ≡ behind front (heardAll s bs)
+unfolding heardAll
+heard-behind front s [] = refl
+heard-behind front s (b ∷ bs) = rw (one (eqb b (code "\n"))) (heard-behind front (heard s b) bs)
+  where
+    one : (t : Bool) → cond t (answered (behind front s)) (keeps (behind front s) b) ≡ behind front (cond t (answered s) (keeps s b))
+    one true = rw append-assoc
+    one false = refl
+
+-- printing only adds to what was printed
+only-adds : (s : Stream) (bs : List ℕ) → heardAll s bs ≡ behind (s .printed) (heardAll (emptied s) bs)
+only-adds s bs =
+    let whole : behind (s .printed) (emptied s) ≡ s = rw append-nil in
+    ap (λ t. heardAll t bs) (sym whole) ∙ heard-behind (s .printed) (emptied s) bs
+
+finished-behind : (s : Stream) → s .printed ++ finished (emptied s) ≡ finished s
+finished-behind s = on (response (s .session) (s .kept) .session .is_open)
+  where
+    answer : List ℕ
+    answer = joined (response (s .session) (s .kept) .pieces)
+
+    on : (t : Bool) → s .printed ++ cond t (answer ++ joined (okOrError false)) answer ≡ cond t ((s .printed ++ answer) ++ joined (okOrError false)) (s .printed ++ answer)
+    on true = rw append-assoc
+    on false = refl
+
+-- what is written out next does not hang on what was printed before
+next-out : (front : List ℕ) (s : Stream) (pieces : List (List ℕ)) → writtenOut s pieces ≡ writtenOut (behind front s) pieces
+next-out front s [] = refl
+next-out front s (piece ∷ more) = refl
+
+written-out : (s : Stream) (pieces : List (List ℕ)) → s .printed ++ writtenOut s pieces ≡ finished (heardAll s (joined pieces))
+unfolding heardAll
+written-out s [] = finished-behind s
+written-out s (piece ∷ more) =
+    let t = heardAll (emptied s) piece in
+    sym (append-assoc (s .printed) (t .printed) (writtenOut t more))
+    ∙ ap (_++_ (s .printed ++ t .printed)) (next-out (s .printed) t more)
+    ∙ written-out (behind (s .printed) t) more
+    ∙ ap (λ u. finished (heardAll u (joined more))) (sym (only-adds s piece))
+    ∙ ap finished (sym (heard-pieces s piece (joined more)))
+
+pub in-pieces : InPieces
+in-pieces pieces = written-out unheard pieces

@@ -1,0 +1,62 @@
+-- By the target.
+use borrow.Author.Needs.{needs}
+use Rattle.digits.proofs.Digits.{cut-more}
+use Rattle.table.proofs.put_target.Statement.{statement}
+use Rattle.table.proofs.put_target.Tie as tie
+
+enum-told : tie.Need-enum-told
+enum-told c = search needs
+
+slice-aggregate-put-all : tie.Need-slice-aggregate-put-all
+slice-aggregate-put-all c = search needs
+
+put-all-requires : tie.Need-put-all-requires
+put-all-requires c κs = tt
+
+enum-told-2 : tie.Need-enum-told-2
+enum-told-2 c = search needs
+
+slice-aggregate-put-all-2 : tie.Need-slice-aggregate-put-all-2
+slice-aggregate-put-all-2 c = search needs
+
+put-all-requires-2 : tie.Need-put-all-requires-2
+put-all-requires-2 c κs = tt
+
+enum-known-target : tie.Need-enum-known-target
+enum-known-target c = search needs
+
+slice-aggregate-put-all-3 : tie.Need-slice-aggregate-put-all-3
+slice-aggregate-put-all-3 c = search needs
+
+put-all-requires-3 : tie.Need-put-all-requires-3
+put-all-requires-3 c κs = tt
+
+put-name-requires : tie.Need-put-name-requires
+put-name-requires c κs = tt
+
+returns : tie.Need-returns
+returns c = rw (c .put-all .ensures, c .before .before .enum-told .given .1)
+
+returns-2 : tie.Need-returns-2
+returns-2 c = rw (c .put-all2 .ensures, c .before .before .enum-told2 .given .1)
+
+returns-3 : tie.Need-returns-3
+returns-3 c = rw (c .put-name .ensures, c .before .put-all3 .ensures, cut-more, c .before .before .before .before .target .given .1)
+
+pub put-target-spec : {M : Type 1} → statement M
+put-target-spec =
+    tie.close
+    (tie.spec
+    enum-told
+    slice-aggregate-put-all
+    put-all-requires
+    enum-told-2
+    slice-aggregate-put-all-2
+    put-all-requires-2
+    enum-known-target
+    slice-aggregate-put-all-3
+    put-all-requires-3
+    put-name-requires
+    returns
+    returns-2
+    returns-3)
