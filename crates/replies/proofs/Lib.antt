@@ -3,3 +3,4 @@ pub mod LogPage
 pub mod ReadBack
 pub mod Sizes
 pub mod Ticking
+pub mod Uncut
