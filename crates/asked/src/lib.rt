@@ -1,16 +1,19 @@
 // What a line of a script can ask for: a call, a part of a set-up block, or what a word says that stands alone.
-use bridge::Reply;
-use drive::Condition;
-use drive::Power;
+ghost use mathlib.Core.Path.{_≡_};
+ghost use Rattle.conditions.specs.Conditions.{conditionAt};
+ghost use Rattle.asked.specs.Offers;
+use conditions::Condition;
+use conditions::Power;
 use drive::Record;
 use drive::Tenths;
-use epc::Registers;
+use registers::Registers;
+use requests::Reply;
 use unit::Held;
 use unit::Out;
 use unit::Slot;
 
-// A call; START STOP UNIT's bytes are read apart, since an enum holds no array.
-pub enum Call {
+// A call that answers that it is done, or a refusal.
+pub enum PlainCall {
     Tick(u32),
     Epc(Registers),
     Read(u32),
@@ -18,6 +21,11 @@ pub enum Call {
     PowerOn,
     HardReset,
     SoftReset,
+}
+
+// A call; START STOP UNIT's bytes are read apart, since an enum holds no array.
+pub enum CallLine {
+    Plain(PlainCall),
     StartStop(u32),
     Next(u32),
     Answer(u32, Reply),
@@ -45,10 +53,28 @@ pub enum Part {
 pub enum Line {
     Blank,
     Wrong,
-    Asks(Call),
+    Asks(CallLine),
     Sets(Part),
     Opens,
     Closes,
     Shows,
     Tables,
+}
+
+// A line that is as the format says, or not.
+pub fn offered(good: bool, line: Line) -> Line
+    ensures { λ r. ⌜ r ≡ Offers.offered good line ⌝ }
+{
+    if good { line } else { Line::Wrong }
+}
+
+// The condition of that place among the names; the first where there is none.
+pub fn condition_at(place: usize) -> Condition
+    ensures { λ r. ⌜ r ≡ conditionAt place ⌝ }
+{
+    if place < 5 {
+        conditions::condition_at(place)
+    } else {
+        Condition::IdleA
+    }
 }

@@ -1,4 +1,3 @@
 pub mod Parts
 pub mod RoundTrip
 pub mod Sessions
-pub mod Spelling

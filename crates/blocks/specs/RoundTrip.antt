@@ -2,7 +2,8 @@
 use mathlib.Core.Path.{_≡_}
 use lib.ListN.{length}
 use Rattle.unit.specs.declared.Unit.{Unit}
-use Rattle.blocks.specs.Parts.{setUp, partsOf}
+use Rattle.blocks.specs.Parts.{setUp}
+use Rattle.asked.specs.Records.{partsOf}
 
 -- A unit whose arrays have their lengths, as every unit of the code has.
 pub record Whole (u : Unit) : Type 0 where

@@ -1,6 +1,6 @@
 -- The format page, "Set-up": a block from `unit` to `end`. Assumes nothing.
 use mathlib.Core.Bool.{Bool, true, false, cond}
-use Rattle.unit.specs.Calls.{blank}
+use Rattle.unit.specs.Units.{blank}
 use Rattle.unit.specs.declared.Unit.{Unit}
 use Rattle.asked.specs.declared.Line.{Line}
 use Rattle.asked.specs.declared.Line.the-variants.{Blank, Wrong, Asks, Sets, Opens, Closes, Shows, Tables}
@@ -11,8 +11,8 @@ abbrev pub session : Unit → Bool → Bool → Unit → Session
 session u isOpen good draft = record { unit = u; is_open = isOpen; good = good; draft = draft }
 
 -- "A run starts with an all-zero unit: nothing supported, Active."
-abbrev pub fresh : Session
-fresh = session blank false true blank
+abbrev pub startSession : Session
+startSession = session blank false true blank
 
 abbrev pub withUnit : Unit → Session → Session
 withUnit u s = session u (s .is_open) (s .good) (s .draft)

@@ -1,3 +1,1 @@
-pub mod Cdb
-pub mod Operations
 pub mod Bridge

@@ -3,18 +3,20 @@ use mathlib.Core.Path.{_≡_, refl, ap}
 use Prim.Native.Nat.{ℕ}
 use native.Mathlib.Omega.{arith}
 use lib.ListN.{getD}
-use Rattle.drive.specs.Conditions.{placeOf}
-use Rattle.drive.specs.declared.Condition.the-variants.{IdleB}
+use Rattle.conditions.specs.Conditions.{placeOf}
+use Rattle.conditions.specs.declared.Condition.the-variants.{IdleB}
 use Rattle.drive.specs.Records.{recordWellFormed, recordsWellFormed, driveWellFormed}
 use Rattle.drive.specs.Drives.{timersAsk, ticked, used, made}
-use Rattle.pages.specs.Senses.{senseBytes}
+use Rattle.senses.specs.Senses.{senseBytes}
 use Rattle.epc.specs.Epc.{aborts, performed}
 use Rattle.unit.specs.Units.{hostsWellFormed, wellFormed}
-use Rattle.unit.specs.Refusals.{lowest}
-use Rattle.unit.specs.Calls.{epcOutcome, tickOutcome, writeOutcome, senseOutcome}
-use Rattle.bridge.specs.Cdb.{wanted, isListed}
-use Rattle.bridge.specs.Operations.{answeredFor}
-use Rattle.bridge.specs.Bridge.{startStopOutcome, nextOutcome, answerOutcome}
+use Rattle.refusals.specs.Refusals.{lowest}
+use Rattle.engine.specs.Engine.{epcOutcome, tickOutcome, writeOutcome}
+use Rattle.readouts.specs.Readouts.{senseOutcome}
+use Rattle.cdb.specs.Cdb.{wanted, isListed}
+use Rattle.exchange.specs.Answered.{answeredFor}
+use Rattle.bridge.specs.Bridge.{startStopOutcome}
+use Rattle.exchange.specs.Exchange.{nextOutcome, answerOutcome}
 use Rattle.calls.specs.Calls.{Outcome, outcome, StepFunction}
 use Rattle.calls.specs.Examples.{*a, *b, *c, *d, *e, *f, *g19, *g20, *g49, *g50, *h, *i1, *i2, *j1, *j2, *j3, *k, *l, *m, untouched, quiet, Examples}
 

@@ -1,18 +1,18 @@
--- A call changes no slot and no held sense out of its reach. A value set at one place of a row leaves every other place as it was.
-use mathlib.Core.Path.{_≡_, refl, ap}
-use mathlib.Core.List.{List}
-use Prim.Native.Nat.{ℕ, _<_}
-use lib.ListN.{length, set}
-use lib.Seq.{getD-set-same, getD-set-other}
-use Rattle.unit.specs.Units.{emptySlot, noneHeld, slotOf, heldOf}
-use Rattle.unit.specs.declared.Slot.{Slot}
-use Rattle.unit.specs.declared.HostSlot.{HostSlot}
-use Rattle.unit.specs.declared.Held.{Held}
-use Rattle.unit.specs.declared.HostHeld.{HostHeld}
+-- A call changes no slot and no held sense but those of its own host: each effect sets the one or the other there, or clears all.
+use mathlib.Core.Path.{_≡_, refl}
+use mathlib.Core.Bool.{true, false≢true}
+use Prim.Native.Nat.{ℕ}
+use lib.ListN.{replicate}
+use Rattle.unit.specs.Units.{emptySlot, slotOf, noneHeld, heldOf}
 use Rattle.unit.specs.declared.Unit.{Unit}
-use Rattle.calls.specs.Calls.{Call, outcome}
-use Rattle.calls.specs.Kinds.{Reach, nobody, only, everybody, reachOf}
+use Rattle.unit.specs.declared.Out.the-variants.{NoneOut}
+use Rattle.refusals.specs.declared.Verdict.the-variants.{Clear}
+use Rattle.calls.specs.Calls.{Call, setFeatures, tick, read, write, powerOn, hardReset, softReset, startStop, next, answer, requestSense, logPage, outcome, step}
+use Rattle.calls.specs.Described.{Reach, nobody, only, everybody, reachOf, isReset, effect}
+use Rattle.calls.specs.Table.{verdictIn}
+use Rattle.calls.proofs.Numbers.{acceptance-does}
 use Rattle.calls.proofs.Steps.{after-every}
+use Rattle.unit.proofs.Hosts.{other-slot, other-held}
 
 -- Host k has in v the slot and the held sense that it has in u.
 abbrev pub SameFor : ℕ → Unit → Unit → Type 0
@@ -24,25 +24,11 @@ Spared nobody u v = (v .slots ≡ u .slots) × (v .held ≡ u .held)
 Spared (only host) u v = (k : ℕ) → (k ≡ host → ⊥) → SameFor k u v
 Spared everybody u v = Prim.Unit {0}
 
--- The value set at a host's place, and the values at every other.
-pub own-slot : (slots : List HostSlot) (host : ℕ) (s : Slot) → host < length slots → slotOf (set slots host (record { slot = s })) host ≡ s
-own-slot slots host s h = ap (λ (x : HostSlot). x .slot) (getD-set-same slots host (record { slot = s }) emptySlot h)
-
-pub own-held : (helds : List HostHeld) (host : ℕ) (h : Held) → host < length helds → heldOf (set helds host (record { held = h })) host ≡ h
-own-held helds host h below = ap (λ (x : HostHeld). x .held) (getD-set-same helds host (record { held = h }) noneHeld below)
-
-module _ (host k : ℕ) (other : k ≡ host → ⊥) where
-  pub other-slot : (slots : List HostSlot) (s : Slot) → slotOf (set slots host (record { slot = s })) k ≡ slotOf slots k
-  other-slot slots s = ap (λ (x : HostSlot). x .slot) (getD-set-other slots host k (record { slot = s }) emptySlot other)
-
-  pub other-held : (helds : List HostHeld) (h : Held) → heldOf (set helds host (record { held = h })) k ≡ heldOf helds k
-  other-held helds h = ap (λ (x : HostHeld). x .held) (getD-set-other helds host k (record { held = h }) noneHeld other)
-
 -- No call changes the slot or the held sense of a host that is out of its reach.
 pub spared : (u : Unit) (c : Call) → Spared (reachOf c) u (outcome u c .unit)
 spared u = after-every (λ c v. Spared (reachOf c) u v) u (record {
   none = λ c. unmoved u refl refl (reachOf c);
-  idle = λ c. unmoved _ refl refl (reachOf c);
+  aborts = λ q. (refl, refl);
   epc = λ q e. (refl, refl);
   ticks = λ e. (refl, refl);
   reads = λ host k n. (refl, refl);
@@ -71,3 +57,30 @@ others-spared u c host k e other = (rw e at (spared u c)) k other
 -- EPC, a tick and a read of the log page change no slot and no held sense at all.
 pub all-spared : (u : Unit) (c : Call) → reachOf c ≡ nobody → (outcome u c .unit .slots ≡ u .slots) × (outcome u c .unit .held ≡ u .held)
 all-spared u c e = rw e at (spared u c)
+
+-- ---- resets
+
+-- "no operation, command out, deferred sense": of no host is anything left.
+pub record Cleared (u : Unit) : Type 0 where
+  pub slots : u .slots ≡ replicate 4 emptySlot
+  pub held : u .held ≡ replicate 4 noneHeld
+  pub out : u .out ≡ NoneOut
+
+-- A reset is everybody's, and an accepted one clears all.
+pub reset-clears : (u : Unit) (c : Call) → isReset c ≡ true → verdictIn (outcome u c .said) ≡ Clear
+    → (reachOf c ≡ everybody) × Cleared (step u c)
+reset-clears u c reset e = rw (acceptance-does u c e .0) (on c reset)
+  where
+    on : (c : Call) → isReset c ≡ true → (reachOf c ≡ everybody) × Cleared (effect u c)
+    on (setFeatures q) h = absurd (false≢true h)
+    on tick h = absurd (false≢true h)
+    on (read host) h = absurd (false≢true h)
+    on (write host) h = absurd (false≢true h)
+    on powerOn h = (refl, record { slots = refl; held = refl; out = refl })
+    on hardReset h = (refl, record { slots = refl; held = refl; out = refl })
+    on softReset h = (refl, record { slots = refl; held = refl; out = refl })
+    on (startStop host cdb) h = absurd (false≢true h)
+    on (next host) h = absurd (false≢true h)
+    on (answer host reply) h = absurd (false≢true h)
+    on (requestSense host buffer) h = absurd (false≢true h)
+    on (logPage buffer) h = absurd (false≢true h)

@@ -1,10 +1,10 @@
 pub mod Examples
 pub mod Hosts
+pub mod KindsDiffer
 pub mod Maker
 pub mod Numbers
 pub mod OneResult
 pub mod Out
 pub mod Progress
-pub mod Requests
 pub mod Steps
 pub mod WellFormed

@@ -4,21 +4,21 @@ use mathlib.Core.Path.{_≡_, sym, _∙_}
 use mathlib.Core.List.{List}
 use Prim.Native.Nat.{ℕ}
 use denote.Ref.{now}
-use Rattle.unit.proofs.manufacture.Reads as manufacture
-use Rattle.unit.proofs.set_features.Reads as set-features
-use Rattle.unit.proofs.tick.Reads as tick
-use Rattle.unit.proofs.read.Reads as read
-use Rattle.unit.proofs.write.Reads as write
-use Rattle.unit.proofs.power_on.Reads as power-on
-use Rattle.unit.proofs.hard_reset.Reads as hard-reset
-use Rattle.unit.proofs.soft_reset.Reads as soft-reset
+use Rattle.engine.proofs.manufacture.Reads as manufacture
+use Rattle.engine.proofs.set_features.Reads as set-features
+use Rattle.engine.proofs.tick.Reads as tick
+use Rattle.engine.proofs.read.Reads as read
+use Rattle.engine.proofs.write.Reads as write
+use Rattle.engine.proofs.power_on.Reads as power-on
+use Rattle.engine.proofs.hard_reset.Reads as hard-reset
+use Rattle.engine.proofs.soft_reset.Reads as soft-reset
 use Rattle.bridge.proofs.start_stop_unit.Reads as start-stop-unit
-use Rattle.bridge.proofs.next_command.Reads as next-command
-use Rattle.bridge.proofs.answer.Reads as answer
-use Rattle.unit.proofs.request_sense.Reads as request-sense
-use Rattle.unit.proofs.log_page.Reads as log-page
-use Rattle.unit.proofs.number.Reads as number
-use Rattle.unit.proofs.sense_of.Reads as sense-of
+use Rattle.exchange.proofs.next_command.Reads as next-command
+use Rattle.exchange.proofs.answer.Reads as answer
+use Rattle.readouts.proofs.request_sense.Reads as request-sense
+use Rattle.readouts.proofs.log_page.Reads as log-page
+use Rattle.refusals.proofs.number.Reads as number
+use Rattle.refusals.proofs.sense_of.Reads as sense-of
 
 same : {A : Type 0} {x y z : A} → x ≡ z → y ≡ z → x ≡ y
 same p q = p ∙ sym q

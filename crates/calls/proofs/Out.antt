@@ -2,19 +2,16 @@
 -- with 4 at the latest. So the command that an answer is judged by is the one that was sent.
 use mathlib.Core.Path.{_≡_, refl, sym, _∙_}
 use mathlib.Core.Bool.{Bool, true, false, _&&_, _||_, true≢false}
-use lib.Dec.{eqb}
-use Rattle.epc.proofs.Effects.{either}
-use Rattle.unit.specs.Units.{isOut, rested}
-use Rattle.unit.specs.Refusals.{numberOf, afterRefusal}
-use Rattle.unit.specs.declared.Refusal.{Refusal}
-use Rattle.unit.specs.declared.Refusal.the-variants.{CommandOut}
-use Rattle.unit.specs.declared.Verdict.{Verdict}
-use Rattle.unit.specs.declared.Verdict.the-variants.{Clear, Given}
+use Rattle.unit.specs.Units.{isOut}
+use Rattle.refusals.specs.declared.Refusal.{Refusal}
+use Rattle.refusals.specs.declared.Refusal.the-variants.{CommandOut}
+use Rattle.refusals.specs.declared.Verdict.{Verdict}
+use Rattle.refusals.specs.declared.Verdict.the-variants.{Clear, Given}
 use Rattle.unit.specs.declared.Unit.{Unit}
 use Rattle.calls.specs.Calls.{Call, setFeatures, tick, read, write, powerOn, hardReset, softReset, startStop, next, answer, requestSense, logPage, outcome, step}
-use Rattle.calls.specs.Kinds.{isReset, isAnswerFor}
+use Rattle.calls.specs.Described.{isReset, isAnswerFor}
 use Rattle.calls.specs.Table.{waitsForDrive, verdictIn}
-use Rattle.calls.proofs.Numbers.{accepted-exactly, refusal-keeps, acceptance-does}
+use Rattle.calls.proofs.Numbers.{accepted-exactly, after-refusal, other-keeps, acceptance-does}
 
 -- What decides the command due from every operation, and whose command is out.
 pub record SameOperations (u v : Unit) : Type 0 where
@@ -25,9 +22,8 @@ pub record SameOperations (u v : Unit) : Type 0 where
 same : (u : Unit) → SameOperations u u
 same u = record { slots = refl; unsaved = refl; out = refl }
 
-after-refused : (u : Unit) (r : Refusal) → SameOperations u (afterRefusal r u)
-after-refused u r =
-    either (SameOperations u) (eqb (numberOf r) 10) (rested u) u (record { slots = refl; unsaved = refl; out = refl }) (same u)
+after-refused : (u : Unit) (c : Call) (r : Refusal) → verdictIn (outcome u c .said) ≡ Given r → SameOperations u (step u c)
+after-refused u c r = after-refusal u c r (SameOperations u) (record { slots = refl; unsaved = refl; out = refl }) (same u)
 
 module _ (u : Unit) (c : Call) where
   -- A call that number 4 is for is refused while a command is out, and leaves the operations as they were.
@@ -38,7 +34,7 @@ module _ (u : Unit) (c : Call) where
       on Clear e =
           let no : (isOut (u .out) && waitsForDrive c) ≡ false = accepted-exactly u c .0 e CommandOut in
           absurd (true≢false (sym (rw (out, waits)) ∙ no))
-      on (Given r) e = rw (refusal-keeps u c r e .0) (after-refused u r)
+      on (Given r) e = after-refused u c r e
 
 -- The calls that may end or take what is out: the answer and the resets.
 abbrev pub mayEnd : Call → Bool
@@ -51,7 +47,7 @@ module _ (u : Unit) (c : Call) (effect : Unit) (kept : SameOperations u effect)
     where
       on : (v : Verdict) → verdictIn (outcome u c .said) ≡ v → SameOperations u (step u c)
       on Clear e = rw (does e) kept
-      on (Given r) e = rw (refusal-keeps u c r e .0) (after-refused u r)
+      on (Given r) e = after-refused u c r e
 
 -- While a command is out no call but an answer or a reset changes a slot, the unsaved mark or what is out.
 pub out-stands : (u : Unit) (c : Call) → isOut (u .out) ≡ true → mayEnd c ≡ false → SameOperations u (step u c)
@@ -67,3 +63,11 @@ out-stands u (next host) out h = out-refuses u (next host) out refl
 out-stands u (answer host reply) out h = absurd (true≢false h)
 out-stands u (requestSense host buffer) out h = out-refuses u (requestSense host buffer) out refl
 out-stands u (logPage buffer) out h = kept-anyway u (logPage buffer) u (same u) (λ e. acceptance-does u (logPage buffer) e .0)
+
+-- "A tick with a command out changes nothing."
+pub tick-out : (u : Unit) → isOut (u .out) ≡ true → step u tick ≡ u
+tick-out u out = on (verdictIn (outcome u tick .said)) refl
+  where
+    on : (v : Verdict) → verdictIn (outcome u tick .said) ≡ v → step u tick ≡ u
+    on Clear e = acceptance-does u tick e .0 ∙ rw out
+    on (Given r) e = other-keeps u tick r e refl

@@ -11,38 +11,41 @@ use lib.ListN.{length, List·getD-eq-default}
 use borrow.Author.Tests.{ltb-true, ltb-false, le-ltb, eqb-false, eq-eqb, ne-eqb, not-true}
 use Rattle.rows.specs.Rows.{everyAt}
 use Rattle.rows.proofs.Places.{and-left, and-right}
-use Rattle.epc.proofs.Effects.{either}
+use Rattle.rows.proofs.Choices.{either}
 use Rattle.unit.specs.Units.{emptySlot, slotOf, isWaiting, wellFormed}
-use Rattle.unit.specs.Refusals.{numberOf, lowest, settled}
-use Rattle.unit.specs.Calls.{mediumRows, writeEffect, writeOutcome}
-use Rattle.unit.specs.declared.Target.{Target}
-use Rattle.unit.specs.declared.Target.the-variants.{Stop, Start, GoTo}
-use Rattle.unit.specs.declared.Stage.the-variants.{Straight, Flushing}
-use Rattle.unit.specs.declared.Request.{Request}
+use Rattle.refusals.specs.Refusals.{lowest}
+use Rattle.outcomes.specs.Settled.{settled}
+use Rattle.engine.specs.Engine.{mediumRows, writeEffect, writeOutcome}
+use Rattle.requests.specs.declared.Target.{Target}
+use Rattle.requests.specs.declared.Target.the-variants.{Stop, Start, GoTo}
+use Rattle.requests.specs.declared.Stage.the-variants.{Straight, Flushing}
+use Rattle.requests.specs.declared.Request.{Request}
 use Rattle.unit.specs.declared.Slot.the-variants.{Empty, Waiting}
 use Rattle.unit.specs.declared.HostSlot.{HostSlot}
 use Rattle.unit.specs.declared.Out.the-variants.{NoneOut, OutFor}
-use Rattle.unit.specs.declared.Verdict.{Verdict}
-use Rattle.unit.specs.declared.Verdict.the-variants.{Clear, Given}
-use Rattle.unit.specs.declared.Answer.the-variants.{Done}
+use Rattle.refusals.specs.declared.Verdict.{Verdict}
+use Rattle.refusals.specs.declared.Verdict.the-variants.{Clear, Given}
+use Rattle.refusals.specs.declared.Answer.the-variants.{Done}
 use Rattle.unit.specs.declared.Unit.{Unit}
-use Rattle.unit.specs.declared.Failure.{Failure}
-use Rattle.unit.specs.declared.Failure.the-variants.{CommandSequence}
-use Rattle.bridge.specs.Operations.{registersOf, lastOf, dueFrom, isFlush, oneMore, flushesOf, flushCounted, isGood, countsAsGood, flushedWell, failed, succeeded, flushAnswered, lastAnswered, answeredFor}
-use Rattle.bridge.specs.Bridge.{startStopRows, nextRows, nextOutcome, answerRows, answerOutcome}
-use Rattle.bridge.specs.declared.Due.{Due}
-use Rattle.bridge.specs.declared.Reply.{Reply}
-use Rattle.bridge.specs.declared.Report.{Report}
-use Rattle.bridge.specs.declared.Next.the-variants.{Send}
-use Rattle.bridge.specs.declared.Progress.the-variants.{More, Ended}
-use Rattle.bridge.specs.declared.Replied.{Replied}
+use Rattle.operations.specs.Operations.{registersOf, lastOf, dueFrom, isFlush, oneMore, flushesOf, flushCounted, isGood, countsAsGood}
+use Rattle.exchange.specs.Answered.{flushedWell, failed, succeeded, flushAnswered, lastAnswered, answeredFor}
+use Rattle.bridge.specs.Bridge.{startStopRows}
+use Rattle.exchange.specs.Exchange.{nextRows, nextOutcome, answerRows, answerOutcome}
+use Rattle.operations.specs.declared.Due.{Due}
+use Rattle.requests.specs.declared.Reply.{Reply}
+use Rattle.operations.specs.declared.Report.{Report}
+use Rattle.operations.specs.declared.Next.the-variants.{Send}
+use Rattle.operations.specs.declared.Progress.the-variants.{More, Ended}
+use Rattle.exchange.specs.declared.Replied.{Replied}
 use Rattle.calls.specs.Calls.{Call, setFeatures, tick, read, write, powerOn, hardReset, softReset, startStop, next, answer, requestSense, logPage, Said, plain, outcome, step, run, Event, history}
-use Rattle.calls.specs.Kinds.{isReset, isWrite, isAnswerFor}
+use Rattle.calls.specs.Described.{isReset, isWrite, isAnswerFor}
 use Rattle.calls.specs.Table.{verdictIn, isClear}
-use Rattle.calls.proofs.Numbers.{clear-none}
+use Rattle.refusals.proofs.Lowest.{not-applies}
+use Rattle.refusals.specs.declared.Refusal.the-variants.{OwnWaiting}
 use Rattle.calls.proofs.Steps.{after-every}
-use Rattle.calls.proofs.Hosts.{own-slot, other-slot}
-use Rattle.calls.proofs.WellFormed.{unit-fine, well-formed-kept, run-well-formed}
+use Rattle.unit.proofs.Hosts.{own-slot, other-slot}
+use Rattle.unit.proofs.WellFormed.{unit-fine}
+use Rattle.calls.proofs.WellFormed.{well-formed-kept, run-well-formed}
 
 -- ---- asking for the next command
 
@@ -119,8 +122,8 @@ pub record Counted (host : ℕ) (q : Request) (r : Replied) : Type 0 where
   pub out : r .unit .out ≡ NoneOut
 
 module _ (u : Unit) (host : ℕ) (q : Request) (inside : host < length (u .slots)) where
-  failed-over : (f : Failure) (n : ℕ) → Over host (failed u host q f n)
-  failed-over f n = record {
+  failed-over : (n : ℕ) → Over host (failed u host q n)
+  failed-over n = record {
     report = _;
     answer = refl;
     slot = either (λ (v : Unit). slotOf (v .slots) host ≡ Empty) (q .immed) _ _ (own-slot (u .slots) host Empty inside) (own-slot (u .slots) host Empty inside);
@@ -131,7 +134,7 @@ module _ (u : Unit) (host : ℕ) (q : Request) (inside : host < length (u .slots
   succeeded-over = record { report = _; answer = refl; slot = own-slot (u .slots) host Empty inside; out = refl }
 
   last-over : (reply : Reply) → Over host (lastAnswered u host q reply)
-  last-over reply = either (Over host) (countsAsGood (q .target) reply) _ _ succeeded-over (failed-over CommandSequence (flushesOf (q .stage)))
+  last-over reply = either (Over host) (countsAsGood (q .target) reply) _ _ succeeded-over (failed-over (flushesOf (q .stage)))
 
   flushed-counted : Counted host q (flushedWell u host q)
   flushed-counted = record { answer = refl; slot = own-slot (u .slots) host _ inside; unsaved = refl; out = refl }
@@ -153,7 +156,7 @@ module _ (u : Unit) (fine : wellFormed u ≡ true) (host : ℕ) (q : Request) (w
   answer-ends-or-counts =
       rw (answer-taken u fine host q waiting out reply)
       (either P (isFlush (dueFrom (u .unsaved) q)) _ _
-      (either P (isGood reply) _ _ (inr (flushed-counted u host q inside)) (inl (failed-over u host q inside CommandSequence _)))
+      (either P (isGood reply) _ _ (inr (flushed-counted u host q inside)) (inl (failed-over u host q inside _)))
       (inl (last-over u host q inside reply)))
     where
       P : Replied → Type 0
@@ -201,7 +204,7 @@ module _ (u : Unit) (saved : u .unsaved ≡ false) where
   saved-unless : (c : Call) → ((said : Said) → wrote c said ≡ false) → outcome u c .unit .unsaved ≡ false
   saved-unless = after-every (λ c v. ((said : Said) → wrote c said ≡ false) → v .unsaved ≡ false) u (record {
     none = λ c n. saved;
-    idle = λ c n. saved;
+    aborts = λ q n. saved;
     epc = λ q e n. saved;
     ticks = λ e n. saved;
     reads = λ host n. saved;
@@ -228,7 +231,7 @@ module _ (u : Unit) (saved : u .unsaved ≡ false) where
     where
       on : (v : Verdict) → isClear (verdictIn (plain (settled u (writeEffect u) v .answer))) ≡ false → settled u (writeEffect u) v .unit .unsaved ≡ false
       on Clear n = absurd (true≢false n)
-      on (Given r) n = either (λ (v : Unit). v .unsaved ≡ false) (eqb (numberOf r) 10) _ _ saved saved
+      on (Given r) n = saved
   saved-kept powerOn n = saved-unless powerOn (λ said. refl)
   saved-kept hardReset n = saved-unless hardReset (λ said. refl)
   saved-kept softReset n = saved-unless softReset (λ said. refl)
@@ -243,7 +246,7 @@ pub waiting-kept : (u : Unit) (c : Call) (k : ℕ) (q : Request) → slotOf (u .
     → slotOf (outcome u c .unit .slots) k ≡ Waiting q
 waiting-kept u c k q waiting = after-every (λ c v. movesOn k c ≡ false → slotOf (v .slots) k ≡ Waiting q) u (record {
   none = λ c n. waiting;
-  idle = λ c n. waiting;
+  aborts = λ q n. waiting;
   epc = λ q e n. waiting;
   ticks = λ e n. waiting;
   reads = λ host n. waiting;
@@ -262,7 +265,7 @@ waiting-kept u c k q waiting = after-every (λ c v. movesOn k c ≡ false → sl
   where
     not-own : (host : ℕ) (cdb : List ℕ) → lowest (startStopRows u host cdb) ≡ Clear → k ≡ host → ⊥
     not-own host cdb clear e =
-        let none : isWaiting (slotOf (u .slots) host) ≡ false = clear-none (startStopRows u host cdb) clear 4 in
+        let none : isWaiting (slotOf (u .slots) host) ≡ false = not-applies (startStopRows u host cdb) OwnWaiting clear in
         true≢false (rw (← e, waiting) at none)
 
     apart : (host : ℕ) → eqb host k ≡ false → k ≡ host → ⊥

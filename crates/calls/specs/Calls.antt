@@ -1,15 +1,18 @@
 -- A call, its whole outcome, and runs of calls. The outcomes are the very definitions that the public calls promise.
 use mathlib.Core.List.{List, [], _∷_}
 use Prim.Native.Nat.{ℕ}
-use Rattle.epc.specs.declared.Registers.{Registers}
-use Rattle.unit.specs.Calls.{epcOutcome, tickOutcome, readOutcome, writeOutcome, powerOnOutcome, resetOutcome, senseOutcome, logOutcome}
-use Rattle.unit.specs.declared.Answer.{Answer}
+use Rattle.registers.specs.declared.Registers.{Registers}
+use Rattle.outcomes.specs.declared.Called.{Called}
+use Rattle.readouts.specs.Readouts.{Filled, senseOutcome, logOutcome}
+use Rattle.engine.specs.Engine.{epcOutcome, tickOutcome, readOutcome, writeOutcome, powerOnOutcome, resetOutcome}
+use Rattle.refusals.specs.declared.Answer.{Answer}
 use Rattle.unit.specs.declared.Unit.{Unit}
-use Rattle.bridge.specs.Bridge.{startStopOutcome, nextOutcome, answerOutcome}
-use Rattle.bridge.specs.declared.Reply.{Reply}
-use Rattle.bridge.specs.declared.Acceptance.{Acceptance}
-use Rattle.bridge.specs.declared.Next.{Next}
-use Rattle.bridge.specs.declared.Progress.{Progress}
+use Rattle.bridge.specs.Bridge.{startStopOutcome}
+use Rattle.exchange.specs.Exchange.{nextOutcome, answerOutcome}
+use Rattle.requests.specs.declared.Reply.{Reply}
+use Rattle.operations.specs.declared.Acceptance.{Acceptance}
+use Rattle.operations.specs.declared.Next.{Next}
+use Rattle.operations.specs.declared.Progress.{Progress}
 
 -- The calls on a unit, with what each is handed: registers, a host, a CDB, the drive's answer, a lent buffer as it came.
 pub data Call : Type 0 where
@@ -39,29 +42,28 @@ pub record Outcome : Type 0 where
   pub unit : Unit
   pub buffer : List ℕ
 
+-- A call that says whether it was done and is lent nothing; one that is lent a buffer.
+abbrev pub plainly : Called → Outcome
+plainly c = record { said = plain (c .answer); unit = c .unit; buffer = [] }
+
+abbrev pub intoBuffer : Filled → Outcome
+intoBuffer f = record { said = plain (f .called .answer); unit = f .called .unit; buffer = f .buffer }
+
 abbrev pub outcome : Unit → Call → Outcome
-outcome u (setFeatures q) = record { said = plain (epcOutcome u q .answer); unit = epcOutcome u q .unit; buffer = [] }
-outcome u tick = record { said = plain (tickOutcome u .answer); unit = tickOutcome u .unit; buffer = [] }
-outcome u (read host) = record { said = plain (readOutcome u host .answer); unit = readOutcome u host .unit; buffer = [] }
-outcome u (write host) = record { said = plain (writeOutcome u host .answer); unit = writeOutcome u host .unit; buffer = [] }
-outcome u powerOn = record { said = plain (powerOnOutcome u .answer); unit = powerOnOutcome u .unit; buffer = [] }
-outcome u hardReset = record { said = plain (resetOutcome u .answer); unit = resetOutcome u .unit; buffer = [] }
-outcome u softReset = record { said = plain (resetOutcome u .answer); unit = resetOutcome u .unit; buffer = [] }
+outcome u (setFeatures q) = plainly (epcOutcome u q)
+outcome u tick = plainly (tickOutcome u)
+outcome u (read host) = plainly (readOutcome u host)
+outcome u (write host) = plainly (writeOutcome u host)
+outcome u powerOn = plainly (powerOnOutcome u)
+outcome u hardReset = plainly (resetOutcome u)
+outcome u softReset = plainly (resetOutcome u)
 outcome u (startStop host cdb) =
     record { said = accepted (startStopOutcome u host cdb .answer); unit = startStopOutcome u host cdb .unit; buffer = [] }
 outcome u (next host) = record { said = sent (nextOutcome u host .answer); unit = nextOutcome u host .unit; buffer = [] }
 outcome u (answer host reply) =
     record { said = progressed (answerOutcome u host reply .answer); unit = answerOutcome u host reply .unit; buffer = [] }
-outcome u (requestSense host buffer) = record {
-  said = plain (senseOutcome u host buffer .called .answer);
-  unit = senseOutcome u host buffer .called .unit;
-  buffer = senseOutcome u host buffer .buffer;
-}
-outcome u (logPage buffer) = record {
-  said = plain (logOutcome u buffer .called .answer);
-  unit = logOutcome u buffer .called .unit;
-  buffer = logOutcome u buffer .buffer;
-}
+outcome u (requestSense host buffer) = intoBuffer (senseOutcome u host buffer)
+outcome u (logPage buffer) = intoBuffer (logOutcome u buffer)
 
 -- A step function: what a call on a record comes to. The layer's is `outcome`; a wrong program has another.
 abbrev pub StepFunction : Type 0

@@ -5,24 +5,23 @@ use mathlib.Core.List.{List, [], _∷_}
 use mathlib.Core.Path.{_≡_}
 use Prim.Native.Nat.{ℕ}
 use lib.ListN.{replicate}
-use Rattle.drive.specs.Drives.{withSettings, withRecords, withIdle, entered, madeRecord}
-use Rattle.drive.specs.declared.Condition.the-variants.{IdleA, IdleB, StandbyY, StandbyZ}
-use Rattle.drive.specs.declared.Cause.the-variants.{Timer, Command}
-use Rattle.drive.specs.declared.Power.{Power}
-use Rattle.drive.specs.declared.Power.the-variants.{Active, Low}
+use Rattle.drive.specs.Drives.{withSettings, withRecords, withIdle, madeRecord}
+use Rattle.conditions.specs.declared.Condition.the-variants.{IdleA, IdleB, StandbyY, StandbyZ}
+use Rattle.conditions.specs.declared.Cause.the-variants.{Timer, Command}
+use Rattle.conditions.specs.declared.Power.{Power}
+use Rattle.conditions.specs.declared.Power.the-variants.{Active, Low}
 use Rattle.drive.specs.declared.Setting.{Setting}
 use Rattle.drive.specs.declared.Record.{Record}
 use Rattle.drive.specs.declared.Made.{Made}
-use Rattle.unit.specs.Units.{withDrive}
-use Rattle.unit.specs.Refusals.{numberOf}
-use Rattle.unit.specs.Calls.{madeUnit}
-use Rattle.unit.specs.declared.Refusal.the-variants.{BadField, Aborted}
-use Rattle.unit.specs.declared.Answer.the-variants.{Done, Refused}
+use Rattle.unit.specs.Units.{withPower, withDrive, madeUnit}
+use Rattle.refusals.specs.Refusals.{numberOf}
+use Rattle.refusals.specs.declared.Refusal.the-variants.{BadField, Aborted}
+use Rattle.refusals.specs.declared.Answer.the-variants.{Done, Refused}
 use Rattle.unit.specs.declared.Unit.{Unit}
-use Rattle.bridge.specs.Operations.{registers}
-use Rattle.bridge.specs.declared.Acceptance.the-variants.{GoodDue, NotAccepted}
-use Rattle.bridge.specs.declared.Next.the-variants.{Send}
-use Rattle.bridge.specs.declared.Reply.the-variants.{Good}
+use Rattle.registers.specs.Commands.{ataCommand}
+use Rattle.operations.specs.declared.Acceptance.the-variants.{GoodDue, NotAccepted}
+use Rattle.operations.specs.declared.Next.the-variants.{Send}
+use Rattle.requests.specs.declared.Reply.the-variants.{Good}
 use Rattle.calls.specs.Calls.{Call, setFeatures, tick, write, startStop, next, answer, requestSense, plain, accepted, sent, Outcome, StepFunction}
 
 -- ---- what an example is
@@ -42,8 +41,8 @@ lastFrom by o (c ∷ cs) = lastFrom by (by (o .unit) c) cs
 abbrev pub untouched : Unit → Outcome
 untouched u = record { said = plain Done; unit = u; buffer = [] }
 
-abbrev pub Holds : StepFunction → Example → Type 0
-Holds by x = x .shows (lastFrom by (untouched (x .start)) (x .calls))
+abbrev pub IsShown : StepFunction → Example → Type 0
+IsShown by x = x .shows (lastFrom by (untouched (x .start)) (x .calls))
 
 -- ---- the units that they start from
 
@@ -81,18 +80,15 @@ holding rs = withDrive (withRecords rs (fresh .drive)) fresh
 abbrev pub idled : ℕ → Unit → Unit
 idled n u = withDrive (withIdle n (u .drive)) u
 
-abbrev pub standing : Power → Unit → Unit
-standing p u = withDrive (entered p (u .drive)) u
-
 -- ---- calls and outcomes
 
 -- "Command EFh, Feature 4Ah", with this Count and this LBA.
-abbrev pub epc : ℕ → ℕ → Call
-epc count lba = setFeatures (registers 0xEF 0x4A count lba)
+abbrev pub epcCall : ℕ → ℕ → Call
+epcCall count lba = setFeatures (ataCommand 0xEF 0x4A count lba)
 
 -- START STOP UNIT from host 0, by the six bytes of its CDB.
-abbrev pub cdb : ℕ → ℕ → ℕ → ℕ → ℕ → ℕ → Call
-cdb b₀ b₁ b₂ b₃ b₄ b₅ = startStop 0 (b₀ ∷ b₁ ∷ b₂ ∷ b₃ ∷ b₄ ∷ b₅ ∷ [])
+abbrev pub cdbCall : ℕ → ℕ → ℕ → ℕ → ℕ → ℕ → Call
+cdbCall b₀ b₁ b₂ b₃ b₄ b₅ = startStop 0 (b₀ ∷ b₁ ∷ b₂ ∷ b₃ ∷ b₄ ∷ b₅ ∷ [])
 
 -- The whole outcome: done, or refused, with the whole record after it.
 abbrev pub done : Unit → Outcome
@@ -107,7 +103,7 @@ isIn p o = (o .said ≡ plain Done) × (o .unit .drive .power ≡ p)
 
 -- The host is handed this command: Command, Feature, Count, LBA.
 abbrev pub sends : ℕ → ℕ → ℕ → ℕ → Outcome → Type 0
-sends command feature count lba o = o .said ≡ sent (Send (registers command feature count lba))
+sends command feature count lba o = o .said ≡ sent (Send (ataCommand command feature count lba))
 
 -- ---- the table
 
@@ -115,27 +111,27 @@ sends command feature count lba o = o .said ≡ sent (Send (registers command fe
 pub data Marked : Type 0 where
   *a *b *c *d *e *f *g19 *g20 *g49 *g50 *h *i1 *i2 *j1 *j2 *j3 *k *l *m : Marked
 
-abbrev pub table : Marked → Example
+abbrev pub exampleOf : Marked → Example
 -- "Count 82h, LBA 012C22h: current Idle_B on, 300; saved untouched."
-table *a = record {
+exampleOf *a = record {
   start = idled 7 fresh;
-  calls = epc 0x82 0x012C22 ∷ [];
+  calls = epcCall 0x82 0x012C22 ∷ [];
   shows = λ o. o ≡ done (holding (quiet ∷ keeps off off (on 300) ∷ quiet ∷ quiet ∷ quiet ∷ []));
 }
 -- "012C32h: saved too."
-table *b = record {
+exampleOf *b = record {
   start = idled 7 fresh;
-  calls = epc 0x82 0x012C32 ∷ [];
+  calls = epcCall 0x82 0x012C32 ∷ [];
   shows = λ o. o ≡ done (holding (quiet ∷ keeps off (on 300) (on 300) ∷ quiet ∷ quiet ∷ quiet ∷ []));
 }
 -- "000022h: off, 0.": here from a timer that was on.
-table *c = record {
+exampleOf *c = record {
   start = idled 7 (new off (on 300) off off off);
-  calls = epc 0x82 0x000022 ∷ [];
+  calls = epcCall 0x82 0x000022 ∷ [];
   shows = λ o. o ≡ done (holding (quiet ∷ keeps (on 300) (on 300) off ∷ quiet ∷ quiet ∷ quiet ∷ []));
 }
 -- "Count FFh, LBA 50h: all current and saved become default."
-table *d = record {
+exampleOf *d = record {
   start =
       idled 7
       (holding
@@ -145,71 +141,71 @@ table *d = record {
       ∷ keeps (on 40) off off
       ∷ keeps off (on 51) (on 52)
       ∷ []));
-  calls = epc 0xFF 0x50 ∷ [];
+  calls = epcCall 0xFF 0x50 ∷ [];
   shows = λ o. o ≡ done (new (on 10) (on 20) (on 30) (on 40) off);
 }
 -- "Count FFh, LBA 1h: aborted."
-table *e = record { start = idled 7 fresh; calls = epc 0xFF 0x1 ∷ []; shows = λ o. o ≡ aborted fresh }
+exampleOf *e = record { start = idled 7 fresh; calls = epcCall 0xFF 0x1 ∷ []; shows = λ o. o ≡ aborted fresh }
 -- "Count 82h, LBA 21h: aborted."
-table *f = record { start = idled 7 fresh; calls = epc 0x82 0x21 ∷ []; shows = λ o. o ≡ aborted fresh }
+exampleOf *f = record { start = idled 7 fresh; calls = epcCall 0x82 0x21 ∷ []; shows = λ o. o ≡ aborted fresh }
 -- "Idle_A 20, Standby_z 50: after 19 ticks Active, 20 Idle_A, 49 Idle_A, 50 Standby_z."
-table *g19 = record { start = new (on 20) off off off (on 50); calls = replicate 19 tick; shows = isIn Active }
-table *g20 = record { start = new (on 20) off off off (on 50); calls = replicate 20 tick; shows = isIn (Low IdleA Timer) }
-table *g49 = record { start = new (on 20) off off off (on 50); calls = replicate 49 tick; shows = isIn (Low IdleA Timer) }
-table *g50 = record { start = new (on 20) off off off (on 50); calls = replicate 50 tick; shows = isIn (Low StandbyZ Timer) }
+exampleOf *g19 = record { start = new (on 20) off off off (on 50); calls = replicate 19 tick; shows = isIn Active }
+exampleOf *g20 = record { start = new (on 20) off off off (on 50); calls = replicate 20 tick; shows = isIn (Low IdleA Timer) }
+exampleOf *g49 = record { start = new (on 20) off off off (on 50); calls = replicate 49 tick; shows = isIn (Low IdleA Timer) }
+exampleOf *g50 = record { start = new (on 20) off off off (on 50); calls = replicate 50 tick; shows = isIn (Low StandbyZ Timer) }
 -- "Standby_y 30, Idle_C 40: after 40 ticks Standby_y."
-table *h = record { start = new off off (on 40) (on 30) off; calls = replicate 40 tick; shows = isIn (Low StandbyY Timer) }
+exampleOf *h = record { start = new off off (on 40) (on 30) off; calls = replicate 40 tick; shows = isIn (Low StandbyY Timer) }
 -- "CDB 1B 00 00 01 20 00: E7h, then EFh 4Ah, Count 82h, LBA 1."
-table *i1 = record {
+exampleOf *i1 = record {
   start = fresh;
-  calls = cdb 0x1B 0x00 0x00 0x01 0x20 0x00 ∷ next 0 ∷ [];
+  calls = cdbCall 0x1B 0x00 0x00 0x01 0x20 0x00 ∷ next 0 ∷ [];
   shows = sends 0xE7 0 0 0;
 }
-table *i2 = record {
+exampleOf *i2 = record {
   start = fresh;
-  calls = cdb 0x1B 0x00 0x00 0x01 0x20 0x00 ∷ next 0 ∷ answer 0 Good ∷ next 0 ∷ [];
+  calls = cdbCall 0x1B 0x00 0x00 0x01 0x20 0x00 ∷ next 0 ∷ answer 0 Good ∷ next 0 ∷ [];
   shows = sends 0xEF 0x4A 0x82 1;
 }
 -- "1B 01 00 00 00 00: GOOD at once, E7h, E0h."
-table *j1 = record {
+exampleOf *j1 = record {
   start = fresh;
-  calls = cdb 0x1B 0x01 0x00 0x00 0x00 0x00 ∷ [];
+  calls = cdbCall 0x1B 0x01 0x00 0x00 0x00 0x00 ∷ [];
   shows = λ o. o .said ≡ accepted GoodDue;
 }
-table *j2 = record {
+exampleOf *j2 = record {
   start = fresh;
-  calls = cdb 0x1B 0x01 0x00 0x00 0x00 0x00 ∷ next 0 ∷ [];
+  calls = cdbCall 0x1B 0x01 0x00 0x00 0x00 0x00 ∷ next 0 ∷ [];
   shows = sends 0xE7 0 0 0;
 }
-table *j3 = record {
+exampleOf *j3 = record {
   start = fresh;
-  calls = cdb 0x1B 0x01 0x00 0x00 0x00 0x00 ∷ next 0 ∷ answer 0 Good ∷ next 0 ∷ [];
+  calls = cdbCall 0x1B 0x01 0x00 0x00 0x00 0x00 ∷ next 0 ∷ answer 0 Good ∷ next 0 ∷ [];
   shows = sends 0xE0 0 0 0;
 }
 -- "1B 00 00 00 02 00: number 8." A refusal returns the record as it came, idle count and all.
-table *k = record {
+exampleOf *k = record {
   start = idled 7 fresh;
-  calls = cdb 0x1B 0x00 0x00 0x00 0x02 0x00 ∷ [];
+  calls = cdbCall 0x1B 0x00 0x00 0x00 0x02 0x00 ∷ [];
   shows =
       λ o. (o ≡ record { said = accepted (NotAccepted BadField); unit = idled 7 fresh; buffer = [] }) × (numberOf BadField ≡ 8);
 }
 -- "Idle_B by command: 70 00 00 00 00 00 00 0A 00 00 00 00 5E 06 00 00 00 00."
-table *l = record {
-  start = standing (Low IdleB Command) fresh;
+exampleOf *l = record {
+  start = withPower (Low IdleB Command) fresh;
   calls = requestSense 0 (replicate 18 0xFF) ∷ [];
   shows =
       λ o. o ≡ record {
         said = plain Done;
-        unit = standing (Low IdleB Command) fresh;
+        unit = withPower (Low IdleB Command) fresh;
         buffer =
             0x70 ∷ 0x00 ∷ 0x00 ∷ 0x00 ∷ 0x00 ∷ 0x00 ∷ 0x00 ∷ 0x0A ∷ 0x00
             ∷ 0x00 ∷ 0x00 ∷ 0x00 ∷ 0x5E ∷ 0x06 ∷ 0x00 ∷ 0x00 ∷ 0x00 ∷ 0x00 ∷ [];
       };
 }
 -- "Host 0 stops, flush good, host 1 writes, host 0 asks: E7h again."
-table *m = record {
+exampleOf *m = record {
   start = fresh;
-  calls = cdb 0x1B 0x00 0x00 0x00 0x00 0x00 ∷ next 0 ∷ answer 0 Good ∷ write 1 ∷ next 0 ∷ [];
+  calls = cdbCall 0x1B 0x00 0x00 0x00 0x00 0x00 ∷ next 0 ∷ answer 0 Good ∷ write 1 ∷ next 0 ∷ [];
   shows = sends 0xE7 0 0 0;
 }
 
@@ -217,4 +213,4 @@ table *m = record {
 
 -- Every marked example holds of the step function.
 abbrev pub Examples : StepFunction → Type 0
-Examples by = (x : Marked) → Holds by (table x)
+Examples by = (x : Marked) → IsShown by (exampleOf x)

@@ -1,5 +1,4 @@
 pub mod Calls
+pub mod Described
 pub mod Examples
-pub mod Kinds
-pub mod Numbers
 pub mod Table

@@ -13,7 +13,7 @@ use lib.Dec.{ltb}
 use lib.ListN.{length, getD, take, set, length-append, length-map, length-take}
 use lib.Seq.{paste, take-all, take-append-le, take-suc-set}
 use Rattle.digits.specs.declared.Text.{Text}
-use Rattle.digits.specs.Texts.{said, cut, written, after}
+use Rattle.digits.specs.Texts.{said, cut, writtenAt, after}
 use Rattle.digits.specs.Numerals.{glyph, numeral, pairs, digitAt, bytesText}
 
 -- ---- what a text says
@@ -92,13 +92,13 @@ put-one t b e h =
 -- ---- bytes that have room in a buffer, and bytes that have none
 
 pub goes-in : (out : List ℕ) (at : ℕ) (bs : List ℕ) → at + length bs ≤ length out
-    → (paste out at bs (length bs) ≡ written out at bs) × (at + length bs ≡ after out at bs)
-unfolding written after
+    → (paste out at bs (length bs) ≡ writtenAt out at bs) × (at + length bs ≡ after out at bs)
+unfolding writtenAt after
 goes-in out at bs h = let e = le-leb (at + length bs) (length out) h in (rw e, rw e)
 
 pub stays-out : (out : List ℕ) (at : ℕ) (bs : List ℕ) → length out < at + length bs
-    → (out ≡ written out at bs) × (at ≡ after out at bs)
-unfolding written after
+    → (out ≡ writtenAt out at bs) × (at ≡ after out at bs)
+unfolding writtenAt after
 stays-out out at bs h = let e = lt-leb (at + length bs) (length out) h in (rw e, rw e)
 
 -- ---- numerals

@@ -1,3 +1,4 @@
 pub mod Numerals
+pub mod Pieces
 pub mod Texts
 pub mod Sheets

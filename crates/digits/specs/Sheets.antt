@@ -2,7 +2,7 @@
 use mathlib.Core.List.{List, [], _∷_, _++_}
 use Prim.Native.Char.{code}
 use Prim.Native.Nat.{ℕ}
-use Rattle.digits.specs.Texts.{cut, written, after}
+use Rattle.digits.specs.Texts.{cut, writtenAt, after}
 
 pub record Sheet : Type 0 where
   pub bytes : List ℕ
@@ -13,7 +13,7 @@ sheet bytes at = record { bytes = bytes; at = at }
 
 -- A piece is written whole or, where there is no room, not at all.
 abbrev pub wrote : Sheet → List ℕ → Sheet
-wrote s bs = sheet (written (s .bytes) (s .at) bs) (after (s .bytes) (s .at) bs)
+wrote s bs = sheet (writtenAt (s .bytes) (s .at) bs) (after (s .bytes) (s .at) bs)
 
 unfoldable pub wroteAll : Sheet → List (List ℕ) → Sheet
 wroteAll s [] = s

@@ -16,11 +16,11 @@ unfoldable pub cut : List ℕ → List ℕ
 cut bs = take 128 bs
 
 -- Bytes are written into a buffer from a place on if there is room for all of them.
-abbrev pub fits : List ℕ → ℕ → List ℕ → Bool
-fits out at bs = leb (at + length bs) (length out)
+abbrev pub hasRoom : List ℕ → ℕ → List ℕ → Bool
+hasRoom out at bs = leb (at + length bs) (length out)
 
-unfoldable pub written : List ℕ → ℕ → List ℕ → List ℕ
-written out at bs = cond (fits out at bs) (paste out at bs (length bs)) out
+unfoldable pub writtenAt : List ℕ → ℕ → List ℕ → List ℕ
+writtenAt out at bs = cond (hasRoom out at bs) (paste out at bs (length bs)) out
 
 unfoldable pub after : List ℕ → ℕ → List ℕ → ℕ
-after out at bs = cond (fits out at bs) (at + length bs) at
+after out at bs = cond (hasRoom out at bs) (at + length bs) at

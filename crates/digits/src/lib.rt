@@ -1,4 +1,5 @@
 // A line of text that is being written: numbers and bytes as digits.
+ghost use mathlib.Core.Bool.{cond};
 ghost use mathlib.Core.List.{[], _∷_, _++_};
 ghost use mathlib.Core.Path.{_≡_};
 ghost use Prim.Native.Nat.{_+_, _*_, _≤_, _<_};
@@ -7,8 +8,9 @@ ghost use lib.ListN.{length};
 ghost use lib.Seq.{paste};
 ghost use Rattle.digits.specs.Numerals;
 ghost use Rattle.digits.specs.Numerals.{hexText, decimalText, tenthsText, bytesText, pairs, digitAt, rightIn, padded};
+ghost use Rattle.digits.specs.Pieces.{flagWord, numberWord, senseText};
 ghost use Rattle.digits.specs.Sheets.{sheet, wrote, lineText};
-ghost use Rattle.digits.specs.Texts.{said, cut, written, after};
+ghost use Rattle.digits.specs.Texts.{said, cut, writtenAt, after};
 
 // Each line but a byte string has fewer than 128 bytes.
 pub struct Text {
@@ -154,7 +156,7 @@ fn room(total: usize, at: usize, n: usize) -> bool
 
 // Writes what a text says into `out` from `at` on, if there is room, and answers the place after it.
 pub fn copy_out(t: Text, out: &mut [u8], at: usize) -> usize
-    ensures { λ r. ⌜ (now (out .exit) ≡ written (now (out .entry)) at (said t)) × (r ≡ after (now (out .entry)) at (said t)) ⌝ }
+    ensures { λ r. ⌜ (now (out .exit) ≡ writtenAt (now (out .entry)) at (said t)) × (r ≡ after (now (out .entry)) at (said t)) ⌝ }
 {
     let n = count(t);
     if room(out.len(), at, n) {
@@ -189,7 +191,7 @@ fn fill(bytes: &[u8], out: &mut [u8], at: usize)
 
 // Writes bytes as a byte string into `out` from `at` on, if there is room, and answers the place after it.
 pub fn put_bytes(bytes: &[u8], out: &mut [u8], at: usize) -> usize
-    ensures { λ r. ⌜ (now (out .exit) ≡ written (now (out .entry)) at (bytesText (now (bytes .entry)))) × (r ≡ after (now (out .entry)) at (bytesText (now (bytes .entry)))) ⌝ }
+    ensures { λ r. ⌜ (now (out .exit) ≡ writtenAt (now (out .entry)) at (bytesText (now (bytes .entry)))) × (r ≡ after (now (out .entry)) at (bytesText (now (bytes .entry)))) ⌝ }
 {
     let n = bytes.len();
     if n == 0 {
@@ -227,4 +229,35 @@ pub fn put_line(t: Text, out: &mut [u8], at: usize) -> usize
     ensures { λ r. ⌜ sheet (now (out .exit)) r ≡ wrote (sheet (now (out .entry)) at) (lineText (said t)) ⌝ }
 {
     copy_out(put(t, b'\n'), out, at)
+}
+
+// Puts one of two pieces, by a flag.
+pub fn put_either(t: Text, flag: bool, yes: &[u8], no: &[u8]) -> Text
+    ensures { λ r. ⌜ said r ≡ cut (said t ++ cond flag (now (yes .entry)) (now (no .entry))) ⌝ }
+{
+    if flag {
+        return put_all(t, yes);
+    }
+    put_all(t, no)
+}
+
+pub fn put_flag(t: Text, flag: bool) -> Text
+    ensures { λ r. ⌜ said r ≡ cut (said t ++ flagWord flag) ⌝ }
+{
+    put_either(t, flag, b" 1", b" 0")
+}
+
+pub fn put_number(t: Text, n: u32) -> Text
+    ensures { λ r. ⌜ said r ≡ cut (said t ++ numberWord n) ⌝ }
+{
+    put_hex(put(t, b' '), n)
+}
+
+// A sense's bytes, the first after `before`, the others after `between`.
+pub fn put_sense(t: Text, key: u8, asc: u8, ascq: u8, before: u8, between: u8) -> Text
+    ensures { λ r. ⌜ said r ≡ cut (said t ++ senseText before between key asc ascq) ⌝ }
+{
+    let first = put_pair(put(t, before), key);
+    let second = put_pair(put(first, between), asc);
+    put_pair(put(second, between), ascq)
 }

@@ -5,11 +5,11 @@ use Prim.Native.Nat.{ℕ, _+_, _-_, _≤_}
 use native.Mathlib.Omega.{arith}
 use lib.Dec.{eqb}
 use borrow.Author.Tests.{eqb-true, eqb-false, ne-eqb}
-use Rattle.drive.specs.Conditions.{conditionAt, depth}
+use Rattle.conditions.specs.Conditions.{conditionAt, depth}
 use Rattle.drive.specs.Drives.{byTimer}
-use Rattle.drive.specs.declared.Power.the-variants.{Low}
-use Rattle.drive.specs.declared.Cause.the-variants.{Timer}
-use Rattle.drive.proofs.Conditions.{place-at}
+use Rattle.conditions.specs.declared.Power.the-variants.{Low}
+use Rattle.conditions.specs.declared.Cause.the-variants.{Timer}
+use Rattle.conditions.proofs.Conditions.{place-at}
 
 -- A place has the depth one more than its number.
 pub by-timer-more : (due : Bool) (i found : ℕ) → byTimer (cond due (i + 1) found) ≡ cond due (Low (conditionAt i) Timer) (byTimer found)

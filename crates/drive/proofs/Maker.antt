@@ -3,7 +3,7 @@ use mathlib.Core.Path.{_≡_, refl, ap, _∙_}
 use mathlib.Core.List.{List, map, map-id}
 use Prim.Native.Nat.{ℕ}
 use Rattle.rows.proofs.Mapped.{map-mapAt}
-use Rattle.drive.specs.declared.Power.{Power}
+use Rattle.conditions.specs.declared.Power.{Power}
 use Rattle.drive.specs.declared.Drive.{Drive}
 use Rattle.drive.specs.declared.Made.{Made}
 use Rattle.drive.specs.Drives.{makerOf, entered, restarted, ticked, used, savedRestored, poweredOn, madeRecord, made}

@@ -10,15 +10,15 @@ use lib.ListN.{length, getD}
 use borrow.Author.Tests.{leb-true, le-leb, ltb-true, ltb-false}
 use Rattle.rows.proofs.Places.{and-left, and-right, and-both}
 use Rattle.rows.proofs.Last.{LastAt, NoneAt, fold-last, fold-none, last-or-none}
-use Rattle.drive.specs.declared.Condition.{Condition}
+use Rattle.conditions.specs.declared.Condition.{Condition}
 use Rattle.drive.specs.declared.Record.{Record}
-use Rattle.drive.specs.declared.Power.{Power}
-use Rattle.drive.specs.declared.Power.the-variants.{Active, Low}
-use Rattle.drive.specs.declared.Cause.the-variants.{Timer}
+use Rattle.conditions.specs.declared.Power.{Power}
+use Rattle.conditions.specs.declared.Power.the-variants.{Active, Low}
+use Rattle.conditions.specs.declared.Cause.the-variants.{Timer}
 use Rattle.drive.specs.declared.Drive.{Drive}
-use Rattle.drive.specs.Conditions.{placeOf, conditionAt, depth}
+use Rattle.conditions.specs.Conditions.{placeOf, conditionAt, depth}
 use Rattle.drive.specs.Drives.{counted, ranOut, timersAsk, withIdle, entered, ticked}
-use Rattle.drive.proofs.Conditions.{place-below, at-place, place-at}
+use Rattle.conditions.proofs.Conditions.{place-below, at-place, place-at}
 
 -- ---- what the timers ask for
 

@@ -2,7 +2,7 @@
 use mathlib.Core.Path.{_≡_, refl}
 use Rattle.rows.specs.Rows.{mapAt}
 use Rattle.drive.specs.Drives.{used, savedRestored, poweredOn}
-use Rattle.drive.specs.declared.Power.the-variants.{Active}
+use Rattle.conditions.specs.declared.Power.the-variants.{Active}
 use Rattle.drive.specs.declared.Drive.{Drive}
 
 -- Used, it has its records, is Active, and its idle count is 0.

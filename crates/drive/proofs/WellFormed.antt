@@ -13,8 +13,8 @@ use Rattle.rows.proofs.Places.{and-left, and-right, and-both, every-from, every
 use Rattle.rows.proofs.Mapped.{every-mapAt}
 use Rattle.drive.specs.declared.Setting.{Setting}
 use Rattle.drive.specs.declared.Record.{Record}
-use Rattle.drive.specs.declared.Power.{Power}
-use Rattle.drive.specs.declared.Power.the-variants.{Active}
+use Rattle.conditions.specs.declared.Power.{Power}
+use Rattle.conditions.specs.declared.Power.the-variants.{Active}
 use Rattle.drive.specs.declared.Drive.{Drive}
 use Rattle.drive.specs.declared.Made.{Made}
 use Rattle.drive.specs.Records.{largestRecovery, settingWellFormed, settingZero, othersZero, recordWellFormed, recordsWellFormed, driveWellFormed}

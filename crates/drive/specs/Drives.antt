@@ -4,16 +4,16 @@ use mathlib.Core.List.{List}
 use Prim.Native.Nat.{ℕ, _+_, _-_}
 use lib.Dec.{leb, ltb, eqb}
 use Rattle.rows.specs.Rows.{foldAt, mapAt}
-use Rattle.drive.specs.Conditions.{conditionAt, depth}
+use Rattle.conditions.specs.Conditions.{conditionAt, depth}
 use Rattle.drive.specs.declared.Setting.{Setting}
 use Rattle.drive.specs.declared.Record.{Record}
-use Rattle.drive.specs.declared.Power.{Power}
-use Rattle.drive.specs.declared.Power.the-variants.{Active, Low}
-use Rattle.drive.specs.declared.Cause.the-variants.{Timer}
+use Rattle.conditions.specs.declared.Power.{Power}
+use Rattle.conditions.specs.declared.Power.the-variants.{Active, Low}
+use Rattle.conditions.specs.declared.Cause.the-variants.{Timer}
 use Rattle.drive.specs.declared.Drive.{Drive}
 use Rattle.drive.specs.declared.Made.{Made}
 
--- ---- the builders: every changed record or drive is made by one of these
+-- ---- the builders: every changed record is made by `withSettings`, and `driveOf` is the one literal of a drive
 
 -- A record with another saved and another current setting.
 abbrev pub withSettings : Setting → Setting → Record → Record
@@ -27,15 +27,18 @@ withSettings s t r = record {
   current = t;
 }
 
+abbrev pub driveOf : List Record → Power → ℕ → Drive
+driveOf rs p n = record { records = rs; power = p; idle = record { 0 = n } }
+
 abbrev pub withRecords : List Record → Drive → Drive
-withRecords rs d = record { records = rs; power = d .power; idle = d .idle }
+withRecords rs d = driveOf rs (d .power) (d .idle .0)
 
 abbrev pub withIdle : ℕ → Drive → Drive
-withIdle n d = record { records = d .records; power = d .power; idle = record { 0 = n } }
+withIdle n d = driveOf (d .records) (d .power) n
 
 -- Every change of condition is this one.
 abbrev pub entered : Power → Drive → Drive
-entered p d = record { records = d .records; power = p; idle = d .idle }
+entered p d = driveOf (d .records) p (d .idle .0)
 
 -- ---- the idle count
 
@@ -100,7 +103,7 @@ madeRecord place m = record {
 }
 
 unfoldable pub made : List Made → Drive
-made ms = record { records = mapAt madeRecord 0 ms; power = Active; idle = record { 0 = 0 } }
+made ms = driveOf (mapAt madeRecord 0 ms) Active 0
 
 -- What the maker said of a condition: the part of its record that no call changes.
 abbrev pub makerOf : Record → Made

@@ -1,13 +1,14 @@
 // The power conditions of one drive (T13 e08120r9), without registers: settings, timers and the condition the drive is in.
 ghost use mathlib.Core.Bool.{cond, not, _||_};
 ghost use mathlib.Core.Path.{_≡_};
-ghost use Prim.Native.Nat.{_<_, _≤_};
+ghost use Prim.Native.Nat.{_≤_};
 ghost use lib.Dec.{eqb};
 ghost use Rattle.rows.specs.Rows.{mapAt};
-ghost use Rattle.drive.specs.Conditions.{placeOf, conditionAt, depth};
 ghost use Rattle.drive.specs.Drives.{withSettings, withRecords, withIdle, entered, restarted, counted, ranOut, timersAsk, byTimer, fallen, used, savedRestored, poweredOn, madeRecord};
 ghost use Rattle.drive.specs.Drives;
 ghost use Rattle.drive.specs.Records.{largest, numbersWellFormed, settingZero, othersZero, recordWellFormed, recordsWellFormed, driveWellFormed};
+use conditions::Cause;
+use conditions::Power;
 
 // Timers and the idle count: tenths of a second. 32 bits, so that "above 65,535" can be said and refused.
 pub struct Tenths(pub u32);
@@ -31,27 +32,6 @@ pub struct Record {
     pub current: Setting,
 }
 
-// The five conditions, in falling power.
-pub enum Condition {
-    IdleA,
-    IdleB,
-    IdleC,
-    StandbyY,
-    StandbyZ,
-}
-
-// What brought the drive below Active.
-pub enum Cause {
-    Timer,
-    Command,
-}
-
-// Active has no cause: the type keeps that clause of "well formed".
-pub enum Power {
-    Active,
-    Low(Condition, Cause),
-}
-
 pub struct Drive {
     pub records: [Record; 5],
     pub power: Power,
@@ -72,41 +52,6 @@ pub fn largest_timer() -> Tenths
     ensures { λ r. ⌜ r .0 ≡ largest ⌝ }
 {
     Tenths(65535)
-}
-
-pub fn place_of(c: Condition) -> usize
-    ensures { λ r. ⌜ (r ≡ placeOf c) × (r < 5) ⌝ }
-{
-    match c {
-        Condition::IdleA => 0,
-        Condition::IdleB => 1,
-        Condition::IdleC => 2,
-        Condition::StandbyY => 3,
-        Condition::StandbyZ => 4,
-    }
-}
-
-pub fn condition_at(place: usize) -> Condition
-    requires { ⌜ place < 5 ⌝ }
-    ensures { λ r. ⌜ r ≡ conditionAt place ⌝ }
-{
-    let falling = [
-        Condition::IdleA,
-        Condition::IdleB,
-        Condition::IdleC,
-        Condition::StandbyY,
-        Condition::StandbyZ,
-    ];
-    falling[place]
-}
-
-pub fn depth_of(p: Power) -> usize
-    ensures { λ r. ⌜ r ≡ depth p ⌝ }
-{
-    match p {
-        Power::Active => 0,
-        Power::Low(c, _) => place_of(c) + 1,
-    }
 }
 
 fn setting_zero(s: Setting) -> bool
@@ -259,8 +204,8 @@ pub fn timed_power(records: [Record; 5], power: Power, count: Tenths) -> Power
     ensures { λ r. ⌜ r ≡ fallen (timersAsk records (count .0)) power ⌝ }
 {
     let asked = depth_asked(records, count);
-    if depth_of(power) < asked {
-        Power::Low(condition_at(asked - 1), Cause::Timer)
+    if conditions::depth_of(power) < asked {
+        Power::Low(conditions::condition_at(asked - 1), Cause::Timer)
     } else {
         power
     }

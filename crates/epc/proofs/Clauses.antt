@@ -6,10 +6,12 @@ use Prim.Native.Nat.{ℕ}
 use Rattle.rows.specs.Rows.{someAt}
 use Rattle.rows.proofs.Some.{or-right, some-same, some-or, some-when}
 use Rattle.drive.specs.declared.Record.{Record}
-use Rattle.epc.specs.Epc.{subOf, named, save, selects, isGoTo, isEvery, isUnlisted, selectedWithout, aborts}
+use Rattle.epc.specs.Epc.{subOf, save, selects, isGoTo, isEvery, isUnlisted, selectedWithout, aborts}
+use Rattle.registers.specs.Commands.{named}
 use Rattle.epc.specs.Inner.{misread, misnamed, selectedBarred}
-use Rattle.epc.specs.declared.Registers.{Registers}
-use Rattle.epc.specs.declared.Named.{Named}
+use Rattle.epc.specs.declared.Sub.{Sub}
+use Rattle.registers.specs.declared.Registers.{Registers}
+use Rattle.registers.specs.declared.Named.{Named}
 
 spread : (s a b c d e : Bool) → (s && (a || b && c || d && e)) ≡ (s && a || b && (s && c) || d && (s && e))
 spread true a b c d e = refl
@@ -19,15 +21,18 @@ spread false a false c true e = refl
 spread false a false c false e = refl
 
 -- One walk that asks whether a selected condition bars the subcommand finds what the three clauses find, each with a walk of its own.
-barred-apart : (n : Named) (goes saves : Bool) (rs : List Record)
-    → someAt (selectedBarred n goes saves) 0 rs
-    ≡ (selectedWithout (λ r. r .supported) n rs || not goes && selectedWithout (λ r. r .changeable) n rs || saves && selectedWithout (λ r. r .saveable) n rs)
-barred-apart n goes saves rs =
-    let a : ℕ → Record → Bool = λ i r. selects n i r && not (r .supported) in
-    let b : ℕ → Record → Bool = λ i r. selects n i r && not (r .changeable) in
-    let d : ℕ → Record → Bool = λ i r. selects n i r && not (r .saveable) in
-    some-same (selectedBarred n goes saves) (λ i r. a i r || not goes && b i r || saves && d i r) 0 rs
-    (λ i r. spread (selects n i r) (not (r .supported)) (not goes) (not (r .changeable)) saves (not (r .saveable)))
+barred-apart : (sub : Sub) (n : Named) (saves : Bool) (rs : List Record)
+    → someAt (selectedBarred sub n saves) 0 rs
+    ≡ (selectedWithout (λ r. r .supported) sub n rs
+    || not (isGoTo sub) && selectedWithout (λ r. r .changeable) sub n rs
+    || saves && selectedWithout (λ r. r .saveable) sub n rs)
+barred-apart sub n saves rs =
+    let goes = isGoTo sub in
+    let a : ℕ → Record → Bool = λ i r. selects sub n i r && not (r .supported) in
+    let b : ℕ → Record → Bool = λ i r. selects sub n i r && not (r .changeable) in
+    let d : ℕ → Record → Bool = λ i r. selects sub n i r && not (r .saveable) in
+    some-same (selectedBarred sub n saves) (λ i r. a i r || not goes && b i r || saves && d i r) 0 rs
+    (λ i r. spread (selects sub n i r) (not (r .supported)) (not goes) (not (r .changeable)) saves (not (r .saveable)))
     ∙ some-or (λ i r. a i r || not goes && b i r) (λ i r. saves && d i r) 0 rs
     ∙ ap (λ (x : Bool). x || someAt (λ i r. saves && d i r) 0 rs) (some-or a (λ i r. not goes && b i r) 0 rs)
     ∙ rw (some-when (not goes) b 0 rs, some-when saves d 0 rs)
@@ -46,23 +51,23 @@ joined false false false false false b c = refl
 -- What the code decides is what the paper's clauses say.
 pub together : (q : Registers) (rs : List Record)
     → (misread q (subOf (q .lba)) || misnamed (isGoTo (subOf (q .lba))) (named (q .count))
-    || not (someAt (selects (named (q .count))) 0 rs)
-    || someAt (selectedBarred (named (q .count)) (isGoTo (subOf (q .lba))) (save (q .lba))) 0 rs)
+    || not (someAt (selects (subOf (q .lba)) (named (q .count))) 0 rs)
+    || someAt (selectedBarred (subOf (q .lba)) (named (q .count)) (save (q .lba))) 0 rs)
     ≡ aborts q rs
 unfolding aborts
 together q rs =
     let sub = subOf (q .lba) in
     let n = named (q .count) in
-    rw (barred-apart n (isGoTo sub) (save (q .lba)) rs)
-    (joined (misread q sub) (isUnlisted n) (isGoTo sub && isEvery n) (not (someAt (selects n) 0 rs)) (selectedWithout (λ r. r .supported) n rs)
-    (not (isGoTo sub) && selectedWithout (λ r. r .changeable) n rs)
-    (save (q .lba) && selectedWithout (λ r. r .saveable) n rs))
+    rw (barred-apart sub n (save (q .lba)) rs)
+    (joined (misread q sub) (isUnlisted n) (isGoTo sub && isEvery n) (not (someAt (selects sub n) 0 rs)) (selectedWithout (λ r. r .supported) sub n rs)
+    (not (isGoTo sub) && selectedWithout (λ r. r .changeable) sub n rs)
+    (save (q .lba) && selectedWithout (λ r. r .saveable) sub n rs))
 
 -- Where nothing aborts, no selected condition bars the subcommand.
 pub none-barred : (q : Registers) (rs : List Record) → aborts q rs ≡ false
-    → someAt (selectedBarred (named (q .count)) (isGoTo (subOf (q .lba))) (save (q .lba))) 0 rs ≡ false
+    → someAt (selectedBarred (subOf (q .lba)) (named (q .count)) (save (q .lba))) 0 rs ≡ false
 none-barred q rs h =
     or-right
-    (misread q (subOf (q .lba)) || misnamed (isGoTo (subOf (q .lba))) (named (q .count)) || not (someAt (selects (named (q .count))) 0 rs))
+    (misread q (subOf (q .lba)) || misnamed (isGoTo (subOf (q .lba))) (named (q .count)) || not (someAt (selects (subOf (q .lba)) (named (q .count))) 0 rs))
     _
     (together q rs ∙ h)

@@ -6,23 +6,20 @@ use Prim.Native.Nat.{ℕ}
 use lib.ListN.{getD}
 use borrow.Author.Tests.{ne-eqb}
 use Rattle.rows.specs.Rows.{mapAt}
+use Rattle.rows.proofs.Choices.{either}
 use Rattle.rows.proofs.Mapped.{map-mapAt, place-kept}
-use Rattle.drive.specs.Conditions.{placeOf}
+use Rattle.conditions.specs.Conditions.{placeOf}
 use Rattle.drive.specs.Drives.{makerOf, restarted, withRecords}
-use Rattle.drive.specs.declared.Condition.{Condition}
+use Rattle.conditions.specs.declared.Condition.{Condition}
 use Rattle.drive.specs.declared.Record.{Record}
 use Rattle.drive.specs.declared.Drive.{Drive}
-use Rattle.epc.specs.Epc.{subOf, named, selects, isGoTo, changed, changedAt, goneTo, performed}
-use Rattle.epc.specs.declared.Registers.{Registers}
+use Rattle.epc.specs.Epc.{subOf, selects, isGoTo, changed, changedAt, goneTo, performed}
+use Rattle.registers.specs.Commands.{named}
+use Rattle.registers.specs.declared.Registers.{Registers}
 use Rattle.epc.specs.declared.Sub.{Sub}
 use Rattle.epc.specs.declared.Sub.the-variants.{Restore, GoTo, SetTimer, SetState, Unknown}
-use Rattle.epc.specs.declared.Named.{Named}
-use Rattle.epc.specs.declared.Named.the-variants.{One, Every, Unlisted}
-
--- what holds of both values holds of the one that is chosen
-pub either : {A : Type 0} (P : A → Type 0) (b : Bool) (x y : A) → P x → P y → P (cond b x y)
-either P true x y p q = p
-either P false x y p q = q
+use Rattle.registers.specs.declared.Named.{Named}
+use Rattle.registers.specs.declared.Named.the-variants.{One, Every, Unlisted}
 
 -- ---- the drive after it, field by field
 
@@ -82,5 +79,7 @@ maker-stays q d =
     rw (records-after q d)
     (either (λ (l : List Record). map makerOf l ≡ map makerOf (d .records)) (isGoTo (subOf (q .lba))) _ _ refl
     (map-mapAt (changedAt q) makerOf makerOf
-    (λ i r. either (λ (s : Record). makerOf s ≡ makerOf r) (selects (named (q .count)) i r) _ _ (changed-maker (subOf (q .lba)) (q .lba) r) refl)
+    (λ i r. either (λ (s : Record). makerOf s ≡ makerOf r) (selects (subOf (q .lba)) (named (q .count)) i r) _ _
+    (changed-maker (subOf (q .lba)) (q .lba) r)
+    refl)
     (d .records)))

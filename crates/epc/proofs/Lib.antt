@@ -1,4 +1,4 @@
 pub mod Clauses
-pub mod Codes
 pub mod Effects
+pub mod Fields
 pub mod WellFormed

@@ -4,21 +4,20 @@ use mathlib.Core.List.{List}
 use Prim.Native.Nat.{ℕ}
 use lib.Dec.{eqb}
 use Rattle.rows.specs.Rows.{someAt, mapAt}
-use Rattle.drive.specs.Conditions.{placeOf}
+use Rattle.conditions.specs.Conditions.{placeOf}
 use Rattle.drive.specs.Drives.{withSettings, withRecords, entered, restarted}
-use Rattle.drive.specs.declared.Condition.{Condition}
-use Rattle.drive.specs.declared.Condition.the-variants.{IdleA, IdleB, IdleC, StandbyY, StandbyZ}
-use Rattle.drive.specs.declared.Cause.the-variants.{Command}
-use Rattle.drive.specs.declared.Power.the-variants.{Low}
+use Rattle.conditions.specs.declared.Cause.the-variants.{Command}
+use Rattle.conditions.specs.declared.Power.the-variants.{Low}
 use Rattle.drive.specs.declared.Setting.{Setting}
 use Rattle.drive.specs.declared.Record.{Record}
 use Rattle.drive.specs.declared.Drive.{Drive}
-use Rattle.epc.specs.Bits.{bits, bit, someOne}
-use Rattle.epc.specs.declared.Registers.{Registers}
+use Rattle.bits.specs.Bits.{bits, bit, someOne}
+use Rattle.registers.specs.Commands.{named}
+use Rattle.registers.specs.declared.Registers.{Registers}
 use Rattle.epc.specs.declared.Sub.{Sub}
 use Rattle.epc.specs.declared.Sub.the-variants.{Restore, GoTo, SetTimer, SetState, Unknown}
-use Rattle.epc.specs.declared.Named.{Named}
-use Rattle.epc.specs.declared.Named.the-variants.{One, Every, Unlisted}
+use Rattle.registers.specs.declared.Named.{Named}
+use Rattle.registers.specs.declared.Named.the-variants.{One, Every, Unlisted}
 
 -- ---- the registers
 
@@ -45,35 +44,18 @@ timerIn lba = bits 23 8 lba
 
 -- "Bits not named are reserved": LBA comes as 32 bits, of which no subcommand names one above 23. An unknown
 -- subcommand names none; it aborts before its bits are looked at.
-abbrev pub reservedOne : Sub → ℕ → Bool
-reservedOne Restore lba = someOne 5 5 lba || someOne 31 7 lba
-reservedOne GoTo lba = someOne 31 4 lba
-reservedOne SetTimer lba = someOne 7 6 lba || someOne 31 24 lba
-reservedOne SetState lba = someOne 31 6 lba
-reservedOne Unknown lba = false
+abbrev pub reservedInLba : Sub → ℕ → Bool
+reservedInLba Restore lba = someOne 5 5 lba || someOne 31 7 lba
+reservedInLba GoTo lba = someOne 31 4 lba
+reservedInLba SetTimer lba = someOne 7 6 lba || someOne 31 24 lba
+reservedInLba SetState lba = someOne 31 6 lba
+reservedInLba Unknown lba = false
 
--- "Count names the condition: 00h Standby_z, 01h Standby_y, 81h Idle_A, 82h Idle_B, 83h Idle_C, FFh every supported one".
-abbrev pub countCode : Condition → ℕ
-countCode IdleA = 0x81
-countCode IdleB = 0x82
-countCode IdleC = 0x83
-countCode StandbyY = 0x01
-countCode StandbyZ = 0x00
-
-abbrev pub named : ℕ → Named
-named count =
-    cond (eqb count 0x00) (One StandbyZ)
-    (cond (eqb count 0x01) (One StandbyY)
-    (cond (eqb count 0x81) (One IdleA)
-    (cond (eqb count 0x82) (One IdleB)
-    (cond (eqb count 0x83) (One IdleC)
-    (cond (eqb count 0xFF) Every Unlisted)))))
-
--- Whether the condition at a place is selected.
-abbrev pub selects : Named → ℕ → Record → Bool
-selects (One c) place r = eqb place (placeOf c)
-selects Every place r = r .supported
-selects Unlisted place r = false
+-- Whether a subcommand with this Count selects the condition at a place: the one that Count names, or "FFh every supported one".
+abbrev pub selects : Sub → Named → ℕ → Record → Bool
+selects sub (One c) place r = eqb place (placeOf c)
+selects sub Every place r = r .supported
+selects sub Unlisted place r = false
 
 -- ---- the abort
 
@@ -102,8 +84,8 @@ isEvery Every = true
 isEvery Unlisted = false
 
 -- Some selected condition fails the test.
-abbrev pub selectedWithout : (Record → Bool) → Named → List Record → Bool
-selectedWithout has n rs = someAt (λ place r. selects n place r && not (has r)) 0 rs
+abbrev pub selectedWithout : (Record → Bool) → Sub → Named → List Record → Bool
+selectedWithout has sub n rs = someAt (λ place r. selects sub n place r && not (has r)) 0 rs
 
 -- "Aborted exactly if:"
 unfoldable pub aborts : Registers → List Record → Bool
@@ -113,17 +95,17 @@ aborts q rs =
     -- "subcommand above 3h;"
     || isUnknown (subOf (q .lba))
     -- "a reserved bit is one;"
-    || reservedOne (subOf (q .lba)) (q .lba)
+    || reservedInLba (subOf (q .lba)) (q .lba)
     -- "Count not listed;"
     || isUnlisted (named (q .count))
     -- "no selected condition, or one unsupported;"
-    || not (someAt (selects (named (q .count))) 0 rs) || selectedWithout (λ r. r .supported) (named (q .count)) rs
+    || not (someAt (selects (subOf (q .lba)) (named (q .count))) 0 rs) || selectedWithout (λ r. r .supported) (subOf (q .lba)) (named (q .count)) rs
     -- "go to with FFh;"
     || isGoTo (subOf (q .lba)) && isEvery (named (q .count))
     -- "for 0h, 2h, 3h, any selected one not changeable;"
-    || not (isGoTo (subOf (q .lba))) && selectedWithout (λ r. r .changeable) (named (q .count)) rs
+    || not (isGoTo (subOf (q .lba))) && selectedWithout (λ r. r .changeable) (subOf (q .lba)) (named (q .count)) rs
     -- "bit 4 one and any selected one not saveable."
-    || save (q .lba) && selectedWithout (λ r. r .saveable) (named (q .count)) rs
+    || save (q .lba) && selectedWithout (λ r. r .saveable) (subOf (q .lba)) (named (q .count)) rs
 
 -- ---- "Effect on each selected condition"
 
@@ -151,7 +133,7 @@ changed SetState lba r = withSettings (savedToo lba (flagSet lba (r .saved)) r) 
 changed Unknown lba r = r
 
 abbrev pub changedAt : Registers → ℕ → Record → Record
-changedAt q place r = cond (selects (named (q .count)) place r) (changed (subOf (q .lba)) (q .lba) r) r
+changedAt q place r = cond (selects (subOf (q .lba)) (named (q .count)) place r) (changed (subOf (q .lba)) (q .lba) r) r
 
 -- "unit enters the condition, cause command".
 abbrev pub goneTo : Named → Drive → Drive

@@ -3,24 +3,17 @@ ghost use mathlib.Core.Bool.{cond};
 ghost use mathlib.Core.Path.{_≡_};
 ghost use Rattle.rows.specs.Rows.{someAt, mapAt};
 ghost use Rattle.drive.specs.Drives.{withSettings};
-ghost use Rattle.epc.specs.Epc.{subOf, named, reservedOne, isUnknown, isGoTo, isUnlisted, isEvery, countCode, restoredFrom, savedToo, timerSet, flagSet, changed, changedAt, goneTo, performed};
+ghost use Rattle.epc.specs.Epc.{subOf, reservedInLba, isUnknown, isGoTo, isUnlisted, isEvery, restoredFrom, savedToo, timerSet, flagSet, changed, changedAt, goneTo, performed};
 ghost use Rattle.epc.specs.Epc;
 ghost use Rattle.epc.specs.Inner;
-use drive::Cause;
-use drive::Condition;
+use conditions::Cause;
+use conditions::Power;
 use drive::Drive;
-use drive::Power;
 use drive::Record;
 use drive::Setting;
 use drive::Tenths;
-
-// The registers of one ATA command. LBA comes as 32 bits.
-pub struct Registers {
-    pub command: u8,
-    pub feature: u8,
-    pub count: u8,
-    pub lba: u32,
-}
+use registers::Named;
+use registers::Registers;
 
 pub enum Sub {
     Restore,
@@ -28,13 +21,6 @@ pub enum Sub {
     SetTimer,
     SetState,
     Unknown,
-}
-
-// What Count names.
-pub enum Named {
-    One(Condition),
-    Every,
-    Unlisted,
 }
 
 // LBA bits 3:0 are the subcommand.
@@ -50,35 +36,6 @@ fn sub_of(lba: u32) -> Sub
     }
 }
 
-// The listed Count codes and the ranges of unlisted ones.
-fn named_by(count: u8) -> Named
-    ensures { λ r. ⌜ r ≡ named count ⌝ }
-{
-    match count {
-        0x00 => Named::One(Condition::StandbyZ),
-        0x01 => Named::One(Condition::StandbyY),
-        0x02..=0x80 => Named::Unlisted,
-        0x81 => Named::One(Condition::IdleA),
-        0x82 => Named::One(Condition::IdleB),
-        0x83 => Named::One(Condition::IdleC),
-        0x84..=0xFE => Named::Unlisted,
-        0xFF => Named::Every,
-    }
-}
-
-// The Count code that names a condition.
-pub fn count_code(c: Condition) -> u8
-    ensures { λ r. ⌜ r ≡ countCode c ⌝ }
-{
-    match c {
-        Condition::IdleA => 0x81,
-        Condition::IdleB => 0x82,
-        Condition::IdleC => 0x83,
-        Condition::StandbyY => 0x01,
-        Condition::StandbyZ => 0x00,
-    }
-}
-
 // Bit 4 of LBA.
 fn save(lba: u32) -> bool
     ensures { λ r. ⌜ r ≡ Epc.save lba ⌝ }
@@ -87,8 +44,8 @@ fn save(lba: u32) -> bool
 }
 
 // Bits not named are reserved: whether one of them is one. A u32 has no bit above 31, so `lba >> 7` is bits 31:7.
-fn reserved_one(sub: Sub, lba: u32) -> bool
-    ensures { λ r. ⌜ r ≡ reservedOne sub lba ⌝ }
+fn reserved_in_lba(sub: Sub, lba: u32) -> bool
+    ensures { λ r. ⌜ r ≡ reservedInLba sub lba ⌝ }
 {
     match sub {
         Sub::Restore => ((lba >> 5) % 2 != 0) | (lba >> 7 != 0),
@@ -143,12 +100,12 @@ fn is_every(n: Named) -> bool
     }
 }
 
-// Whether the condition at a place is selected.
-fn selects(n: Named, place: usize, r: Record) -> bool
-    ensures { λ b. ⌜ b ≡ Epc.selects n place r ⌝ }
+// Whether a subcommand with this Count selects the condition at a place.
+fn selects(sub: Sub, n: Named, place: usize, r: Record) -> bool
+    ensures { λ b. ⌜ b ≡ Epc.selects sub n place r ⌝ }
 {
     match n {
-        Named::One(c) => place == drive::place_of(c),
+        Named::One(c) => place == conditions::place_of(c),
         Named::Every => r.supported,
         Named::Unlisted => false,
     }
@@ -158,7 +115,7 @@ fn selects(n: Named, place: usize, r: Record) -> bool
 fn misread(q: Registers, sub: Sub) -> bool
     ensures { λ r. ⌜ r ≡ Inner.misread q sub ⌝ }
 {
-    (q.command != 0xEF) | (q.feature != 0x4A) | is_unknown(sub) | reserved_one(sub, q.lba)
+    (q.command != 0xEF) | (q.feature != 0x4A) | is_unknown(sub) | reserved_in_lba(sub, q.lba)
 }
 
 // Count is not listed, or a go to names every condition.
@@ -181,15 +138,16 @@ struct Seen {
     barred: bool,
 }
 
-fn look(n: Named, goes: bool, save: bool, records: [Record; 5]) -> Seen
-    ensures { λ r. ⌜ (r .some ≡ someAt (Epc.selects n) 0 records) × (r .barred ≡ someAt (Inner.selectedBarred n goes save) 0 records) ⌝ }
+fn look(sub: Sub, n: Named, save: bool, records: [Record; 5]) -> Seen
+    ensures { λ r. ⌜ (r .some ≡ someAt (Epc.selects sub n) 0 records) × (r .barred ≡ someAt (Inner.selectedBarred sub n save) 0 records) ⌝ }
 {
+    let goes = is_go_to(sub);
     let mut some = false;
     let mut bars = false;
     let mut i = 0;
     while i < 5 {
         let r = records[i];
-        let selected = selects(n, i, r);
+        let selected = selects(sub, n, i, r);
         some = some | selected;
         bars = bars | (selected & barred(goes, save, r));
         i += 1;
@@ -202,10 +160,9 @@ pub fn aborts(q: Registers, records: [Record; 5]) -> bool
     ensures { λ r. ⌜ r ≡ Epc.aborts q records ⌝ }
 {
     let sub = sub_of(q.lba);
-    let n = named_by(q.count);
-    let goes = is_go_to(sub);
-    let seen = look(n, goes, save(q.lba), records);
-    misread(q, sub) | misnamed(goes, n) | !seen.some | seen.barred
+    let n = registers::named_by(q.count);
+    let seen = look(sub, n, save(q.lba), records);
+    misread(q, sub) | misnamed(is_go_to(sub), n) | !seen.some | seen.barred
 }
 
 fn pick(b: bool, x: Setting, y: Setting) -> Setting
@@ -215,7 +172,7 @@ fn pick(b: bool, x: Setting, y: Setting) -> Setting
 }
 
 // The current setting changes; the saved one too with bit 4.
-fn settle(lba: u32, saved: Setting, current: Setting, r: Record) -> Record
+fn set_current(lba: u32, saved: Setting, current: Setting, r: Record) -> Record
     ensures { λ s. ⌜ s ≡ withSettings (savedToo lba saved r) current r ⌝ }
 {
     let kept = r.saved;
@@ -258,23 +215,23 @@ fn change(sub: Sub, lba: u32, r: Record) -> Record
     match sub {
         Sub::Restore => {
             let s = restored_from(lba, r);
-            settle(lba, s, s, r)
+            set_current(lba, s, s, r)
         }
         Sub::GoTo => r,
         Sub::SetTimer => {
             let t = timer_set(lba);
-            settle(lba, t, t, r)
+            set_current(lba, t, t, r)
         }
-        Sub::SetState => settle(lba, flag_set(lba, r.saved), flag_set(lba, r.current), r),
+        Sub::SetState => set_current(lba, flag_set(lba, r.saved), flag_set(lba, r.current), r),
         Sub::Unknown => r,
     }
 }
 
 // A condition that is not selected stays.
-fn change_at(n: Named, sub: Sub, lba: u32, place: usize, r: Record) -> Record
-    ensures { λ s. ⌜ s ≡ Inner.changedBy n sub lba place r ⌝ }
+fn change_at(sub: Sub, n: Named, lba: u32, place: usize, r: Record) -> Record
+    ensures { λ s. ⌜ s ≡ Inner.changedBy sub n lba place r ⌝ }
 {
-    if selects(n, place, r) {
+    if selects(sub, n, place, r) {
         change(sub, lba, r)
     } else {
         r
@@ -286,11 +243,11 @@ fn change_all(q: Registers, records: [Record; 5]) -> [Record; 5]
 {
     let lba = q.lba;
     let sub = sub_of(lba);
-    let n = named_by(q.count);
+    let n = registers::named_by(q.count);
     let mut next = records;
     let mut i = 0;
     while i < 5 {
-        next[i] = change_at(n, sub, lba, i, records[i]);
+        next[i] = change_at(sub, n, lba, i, records[i]);
         i += 1;
     }
     next
@@ -313,7 +270,7 @@ pub fn perform(q: Registers, d: Drive) -> Drive
 {
     let fresh = drive::restart(d);
     if is_go_to(sub_of(q.lba)) {
-        go_to(fresh, named_by(q.count))
+        go_to(fresh, registers::named_by(q.count))
     } else {
         let records = d.records;
         drive::with_records(fresh, change_all(q, records))

@@ -1,5 +1,4 @@
 pub mod Bytes
 pub mod Page
 pub mod Words
-pub mod Codes
 pub mod ReadBack

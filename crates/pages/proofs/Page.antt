@@ -7,7 +7,7 @@ use native.Mathlib.Omega.{arith}
 use lib.ListN.{length, getD, take, replicate, length-append, length-take, length-replicate, replicate-append-replicate}
 use lib.Seq.{paste, take-suc, length-take-le}
 use Rattle.drive.specs.declared.Record.{Record}
-use Rattle.pages.specs.Logs.{bytesOf, namedWords, descriptors, logWords, logPage}
+use Rattle.pages.specs.Logs.{bytesOf, namedWords, descriptors, logWords, logBytes}
 use Rattle.pages.proofs.Bytes.{bytes-append, bytes-length, bytes-zeros, drop-replicate, paste-after}
 
 pub descriptors-length : (rs : List Record) → length (descriptors rs) ≡ 16 * length rs
@@ -20,21 +20,21 @@ unfolding descriptors
 descriptors-append [] ss = refl
 descriptors-append (r ∷ rs) ss = rw (descriptors-append rs ss)
 
-pub page-parts : (rs : List Record) → logPage rs ≡ bytesOf (descriptors rs) ++ replicate (512 - 32 * length rs) 0
-unfolding logPage logWords
+pub page-parts : (rs : List Record) → logBytes rs ≡ bytesOf (descriptors rs) ++ replicate (512 - 32 * length rs) 0
+unfolding logBytes logWords
 page-parts rs =
     let left : 2 * (256 - 16 * length rs) ≡ 512 - 32 * length rs = omega arith in
     rw (bytes-append, bytes-zeros, descriptors-length, left)
 
-pub page-length : (rs : List Record) → length rs ≤ 16 → length (logPage rs) ≡ 512
+pub page-length : (rs : List Record) → length rs ≤ 16 → length (logBytes rs) ≡ 512
 page-length rs h = rw (page-parts rs, length-append, bytes-length, descriptors-length, length-replicate) (omega arith)
 
 -- The log page of five records is 512 bytes.
-pub page-512 : (rs : List Record) → length rs ≡ 5 → length (logPage rs) ≡ 512
+pub page-512 : (rs : List Record) → length rs ≡ 5 → length (logBytes rs) ≡ 512
 page-512 rs five = page-length rs (omega arith)
 
 page-next : (rs : List Record) (r : Record) → length rs < 16
-    → paste (logPage rs) (32 * length rs) (bytesOf (namedWords r)) 16 ≡ logPage (rs ++ (r ∷ []))
+    → paste (logBytes rs) (32 * length rs) (bytesOf (namedWords r)) 16 ≡ logBytes (rs ++ (r ∷ []))
 unfolding descriptors
 page-next rs r h =
     let front = bytesOf (descriptors rs) in
@@ -43,12 +43,12 @@ page-next rs r h =
     (paste-after front _ (bytesOf (namedWords r)) (32 * length rs) (rw (bytes-length, descriptors-length) (omega arith))
     ∙ rw (drop-replicate, rest, ← replicate-append-replicate, append-assoc front (bytesOf (namedWords r)), append-assoc front (bytesOf (descriptors (r ∷ [])))))
 
-pub first-length : (l : List Record) (i : ℕ) → length l ≤ 16 → length (logPage (take i l)) ≡ 512
+pub first-length : (l : List Record) (i : ℕ) → length l ≤ 16 → length (logBytes (take i l)) ≡ 512
 first-length l i h = page-length (take i l) (rw length-take (omega arith))
 
 -- A copy of a record's named words at its place makes of the page of the first i records that of one more.
 pub page-more : (l : List Record) (i : ℕ) (z : Record) → i < length l → length l ≤ 16
-    → paste (logPage (take i l)) (32 * i) (bytesOf (namedWords (getD l i z))) 16 ≡ logPage (take (i + 1) l)
+    → paste (logBytes (take i l)) (32 * i) (bytesOf (namedWords (getD l i z))) 16 ≡ logBytes (take (i + 1) l)
 page-more l i z h k =
     let first : length (take i l) ≡ i = length-take-le i l (omega arith) in
     rw (add-one, take-suc l i z) (rw first at (page-next (take i l) (getD l i z) (omega arith)))

@@ -1,6 +1,6 @@
 -- The records are read back from their page: a word from its two bytes, a record from its named words, the row from one record after another.
 use mathlib.Core.Path.{_≡_, refl, sym, ap, _∙_}
-use mathlib.Core.Bool.{Bool, true, false, _&&_}
+use mathlib.Core.Bool.{Bool, true, false}
 use mathlib.Core.List.{List, [], _∷_, _++_}
 use Prim.Native.Nat.{ℕ, zero, suc, _+_, _*_, _/_, _%_, _^_, _≤_}
 use native.Mathlib.Omega.{arith}
@@ -12,7 +12,8 @@ use Rattle.rows.proofs.Places.{and-left, and-right}
 use Rattle.drive.specs.declared.Setting.{Setting}
 use Rattle.drive.specs.declared.Record.{Record}
 use Rattle.drive.specs.Records.{largest, settingWellFormed, recordWellFormed, recordsWellFormed}
-use Rattle.pages.specs.Logs.{bytesOf, flagAt, namedWords, descriptors, logPage}
+use Rattle.drive.proofs.WellFormed.{record-fine}
+use Rattle.pages.specs.Logs.{bytesOf, flagAt, namedWords, descriptors, logBytes}
 use Rattle.pages.proofs.Page.{page-parts}
 
 -- ---- a word
@@ -73,28 +74,19 @@ setting-back s h =
     let timer = word-back (s .timer .0) (leb-true _ _ (and-left _ _ h)) in
     λ i. record { enabled = flag-back (s .enabled) i; timer = record { 0 = timer i } }
 
-first-four : (a b c d e : Bool) → (a && b && c && d && e) ≡ true → (a ≡ true) × (b ≡ true) × (c ≡ true) × (d ≡ true)
-first-four a b c d e h =
-    let abcd = and-left (a && b && c && d) e h in
-    let abc = and-left (a && b && c) d abcd in
-    let ab = and-left (a && b) c abc in
-    (and-left a b ab, and-right a b ab, and-right (a && b) c abc, and-right (a && b && c) d abcd)
-
 record-back : (r : Record) (rest : List ℕ) → recordWellFormed largest r ≡ true → recordAt (bytesOf (namedWords r) ++ rest) ≡ r
-unfolding recordWellFormed
 record-back r rest h =
-    let fine : Setting → Bool = settingWellFormed largest in
-    let ok = first-four _ (fine (r .default)) (fine (r .saved)) (fine (r .current)) _ h in
+    let fine = record-fine largest r .0 h in
     let flags = flags-back (r .supported) (r .saveable) (r .changeable) in
-    let recovery = word-back (r .recovery .0) (leb-true _ _ (ok .0)) in
+    let recovery = word-back (r .recovery .0) (fine .recovery) in
     λ i. record {
       supported = flags .0 i;
       saveable = flags .1 i;
       changeable = flags .2 i;
       recovery = record { 0 = recovery i };
-      default = setting-back (r .default) (ok .1) i;
-      saved = setting-back (r .saved) (ok .2) i;
-      current = setting-back (r .current) (ok .3) i;
+      default = setting-back (r .default) (fine .default) i;
+      saved = setting-back (r .saved) (fine .saved) i;
+      current = setting-back (r .current) (fine .current) i;
     }
 
 -- ---- the row
@@ -114,15 +106,15 @@ records-back (r ∷ rs) at rest h =
     λ i. first i ∷ others i
 
 -- Five well-formed records can be read off their page.
-pub page-read : (rs : List Record) → recordsWellFormed largest rs ≡ true → recordsAt 5 (logPage rs) ≡ rs
+pub page-read : (rs : List Record) → recordsWellFormed largest rs ≡ true → recordsAt 5 (logBytes rs) ≡ rs
 unfolding recordsWellFormed
 page-read rs h =
     let five = eqb-true (length rs) 5 (and-left _ _ h) in
-    ap (λ (n : ℕ). recordsAt n (logPage rs)) (sym five)
+    ap (λ (n : ℕ). recordsAt n (logBytes rs)) (sym five)
     ∙ ap (recordsAt (length rs)) (page-parts rs)
     ∙ records-back rs 0 _ (and-right (eqb (length rs) 5) _ h)
 
 -- Two well-formed rows of records with the same log page are equal.
 pub page-tells : (rs ss : List Record) → recordsWellFormed largest rs ≡ true → recordsWellFormed largest ss ≡ true
-    → logPage rs ≡ logPage ss → rs ≡ ss
+    → logBytes rs ≡ logBytes ss → rs ≡ ss
 page-tells rs ss h k e = sym (page-read rs h) ∙ ap (recordsAt 5) e ∙ page-read ss k

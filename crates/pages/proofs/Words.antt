@@ -6,11 +6,11 @@ use native.Mathlib.Nat.{zero-add, not-suc-le-zero, le-of-suc-le-suc}
 use native.Mathlib.Omega.{arith}
 use lib.ListN.{length, getD, replicate, getD-replicate, List·getD-append}
 use lib.Seq.{getD-append-add}
-use Rattle.drive.proofs.Conditions.{place-below}
-use Rattle.drive.specs.declared.Condition.{Condition}
-use Rattle.drive.specs.declared.Condition.the-variants.{IdleA, IdleB, IdleC, StandbyY, StandbyZ}
+use Rattle.conditions.proofs.Conditions.{place-below}
+use Rattle.conditions.specs.declared.Condition.{Condition}
+use Rattle.conditions.specs.declared.Condition.the-variants.{IdleA, IdleB, IdleC, StandbyY, StandbyZ}
 use Rattle.drive.specs.declared.Record.{Record}
-use Rattle.drive.specs.Conditions.{placeOf}
+use Rattle.conditions.specs.Conditions.{placeOf}
 use Rattle.pages.specs.Logs.{namedWords, logPlace, descriptors, logWords}
 use Rattle.pages.proofs.Page.{descriptors-length}
 

@@ -3,8 +3,8 @@ use mathlib.Core.Bool.{Bool, cond}
 use mathlib.Core.List.{List, [], _∷_, _++_}
 use Prim.Native.Nat.{ℕ, _+_, _-_, _/_, _%_, _^_}
 use lib.ListN.{length, replicate}
-use Rattle.drive.specs.declared.Condition.{Condition}
-use Rattle.drive.specs.declared.Condition.the-variants.{IdleA, IdleB, IdleC, StandbyY, StandbyZ}
+use Rattle.conditions.specs.declared.Condition.{Condition}
+use Rattle.conditions.specs.declared.Condition.the-variants.{IdleA, IdleB, IdleC, StandbyY, StandbyZ}
 use Rattle.drive.specs.declared.Record.{Record}
 
 -- "256 words, low byte first".
@@ -42,5 +42,5 @@ descriptors (r ∷ rs) = namedWords r ++ replicate 8 0 ++ descriptors rs
 unfoldable pub logWords : List Record → List ℕ
 logWords rs = descriptors rs ++ replicate (256 - length (descriptors rs)) 0
 
-unfoldable pub logPage : List Record → List ℕ
-logPage rs = bytesOf (logWords rs)
+unfoldable pub logBytes : List Record → List ℕ
+logBytes rs = bytesOf (logWords rs)

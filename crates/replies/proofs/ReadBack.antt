@@ -4,30 +4,31 @@ use mathlib.Core.Bool.{Bool, true, false}
 use mathlib.Core.List.{List, [], _∷_, map}
 use Prim.Native.Nat.{ℕ}
 use Rattle.drive.specs.Records.{unsupported}
-use Rattle.drive.specs.declared.Cause.the-variants.{Timer, Command}
-use Rattle.drive.specs.declared.Condition.the-variants.{IdleA, IdleB, StandbyY, StandbyZ}
-use Rattle.drive.specs.declared.Power.{Power}
-use Rattle.drive.specs.declared.Power.the-variants.{Active, Low}
+use Rattle.conditions.specs.declared.Cause.the-variants.{Timer, Command}
+use Rattle.conditions.specs.declared.Condition.the-variants.{IdleA, IdleB, StandbyY, StandbyZ}
+use Rattle.conditions.specs.declared.Power.{Power}
+use Rattle.conditions.specs.declared.Power.the-variants.{Active, Low}
 use Rattle.drive.specs.declared.Record.{Record}
 use Rattle.drive.specs.declared.Setting.{Setting}
-use Rattle.unit.specs.declared.Failure.the-variants.{CommandSequence}
+use Rattle.requests.specs.declared.Failure.the-variants.{CommandSequence}
 use Rattle.unit.specs.declared.Held.the-variants.{Nothing, Holds}
 use Rattle.unit.specs.declared.Out.the-variants.{NoneOut, OutFor}
 use Rattle.unit.specs.declared.Slot.the-variants.{Empty, Waiting}
-use Rattle.unit.specs.declared.Stage.{Stage}
-use Rattle.unit.specs.declared.Stage.the-variants.{Straight, Flushing}
-use Rattle.unit.specs.declared.Target.{Target}
-use Rattle.unit.specs.declared.Target.the-variants.{Stop, Start, GoTo}
+use Rattle.requests.specs.declared.Stage.{Stage}
+use Rattle.requests.specs.declared.Stage.the-variants.{Straight, Flushing}
+use Rattle.requests.specs.declared.Target.{Target}
+use Rattle.requests.specs.declared.Target.the-variants.{Stop, Start, GoTo}
 use Rattle.words.specs.Lines.{beforeReturn}
-use Rattle.words.specs.Numbers.{areDigits, valueAfter, isNumber, numberOf, flagOf}
+use Rattle.words.specs.Numbers.{areDigits, valueAfter, isNumber, wordNumber, wordFlag}
 use Rattle.words.specs.Words.{pieces, nonempty, words, wordAt, placeIn}
 use Rattle.digits.specs.Numerals.{numeral, pairs}
 use Rattle.asked.specs.declared.Line.the-variants.{Sets}
 use Rattle.asked.specs.declared.Part.{Part}
 use Rattle.asked.specs.declared.Part.the-variants.{Settings, Stands, HasSlot, HasHeld, HasOut}
-use Rattle.script.specs.Lines.{askedBy, lineOf}
-use Rattle.script.specs.Parts.{conditionLine, stateLine, slotLine, heldLine, outLine}
-use Rattle.blocks.specs.Spelling.{partText}
+use Rattle.script.specs.Lines.{lineOfWords, lineOfText}
+use Rattle.parts.specs.Parts.{conditionLine, stateLine}
+use Rattle.hosts.specs.Hosts.{slotLine, heldLine, outLine}
+use Rattle.spelling.specs.Spelling.{partText}
 
 abbrev setting : Bool → ℕ → Setting
 setting enabled timer = record { enabled = enabled; timer = record { 0 = timer } }
@@ -68,6 +69,7 @@ samples =
     ∷ HasOut (OutFor 0xFF)
     ∷ []
 
-pub read-back : map (λ p. lineOf (partText p)) samples ≡ map Sets samples
-unfolding numeral pairs partText beforeReturn pieces nonempty words wordAt placeIn areDigits valueAfter isNumber numberOf flagOf lineOf askedBy conditionLine stateLine slotLine heldLine outLine
+pub read-back : map (λ p. lineOfText (partText p)) samples ≡ map Sets samples
+unfolding numeral pairs partText beforeReturn pieces nonempty words wordAt placeIn areDigits valueAfter isNumber wordNumber wordFlag
+    lineOfText lineOfWords conditionLine stateLine slotLine heldLine outLine
 read-back = refl

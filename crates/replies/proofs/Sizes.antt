@@ -4,7 +4,7 @@ use mathlib.Core.Path.{_≡_, refl}
 use mathlib.Core.Bool.{Bool, true, false, cond, not}
 use mathlib.Core.List.{List, [], _∷_, _++_, map}
 use Prim.Native.Char.{code}
-use Prim.Native.Nat.{ℕ, _+_, _*_, _≤_}
+use Prim.Native.Nat.{ℕ, _*_, _≤_}
 use native.Mathlib.Omega.{arith}
 use borrow.Author.Tests.{ltb-true}
 use lib.Dec.{eqb, ltb}
@@ -12,41 +12,43 @@ use lib.ListN.{length, length-append, length-replicate, length-take}
 use Rattle.rows.proofs.Places.{and-left}
 use Rattle.drive.specs.Records.{largest}
 use Rattle.drive.proofs.WellFormed.{drive-five}
-use Rattle.pages.specs.Logs.{logPage}
-use Rattle.pages.specs.Senses.{senseBytes}
+use Rattle.pages.specs.Logs.{logBytes}
+use Rattle.senses.specs.Senses.{senseBytes}
 use Rattle.pages.proofs.Page.{page-512}
-use Rattle.unit.specs.Calls.{Filled, filled, toldBytes, epcOutcome, readOutcome, writeOutcome, powerOnOutcome, resetOutcome, senseEffect, senseRows, senseOutcome, logRows, logOutcome}
-use Rattle.unit.specs.Refusals.{_gives_, lowest}
-use Rattle.unit.specs.declared.Refusal.the-variants.{BadLength, BadRecord}
+use Rattle.readouts.specs.Readouts.{Filled, filled, toldBytes, senseEffect, senseRows, senseOutcome, logRows, logOutcome}
+use Rattle.refusals.specs.Refusals.{_gives_, lowest}
+use Rattle.refusals.specs.declared.Refusal.the-variants.{BadLength, BadRecord}
 use Rattle.unit.specs.Units.{heldOf, wellFormed}
 use Rattle.unit.specs.declared.Held.{Held}
 use Rattle.unit.specs.declared.Held.the-variants.{Nothing, Holds}
-use Rattle.unit.specs.declared.Answer.{Answer}
-use Rattle.unit.specs.declared.Called.{Called}
+use Rattle.refusals.specs.declared.Answer.{Answer}
+use Rattle.outcomes.specs.declared.Called.{Called}
 use Rattle.unit.specs.declared.Unit.{Unit}
-use Rattle.unit.specs.declared.Verdict.{Verdict}
-use Rattle.unit.specs.declared.Verdict.the-variants.{Clear, Given}
-use Rattle.bridge.specs.Bridge.{startStopOutcome, nextOutcome, answerOutcome}
+use Rattle.refusals.specs.declared.Verdict.{Verdict}
+use Rattle.refusals.specs.declared.Verdict.the-variants.{Clear, Given}
+use Rattle.bridge.specs.Bridge.{startStopOutcome}
+use Rattle.exchange.specs.Exchange.{nextOutcome, answerOutcome}
 use Rattle.words.specs.Codes.{codes}
 use Rattle.digits.specs.Numerals.{bytesText}
 use Rattle.digits.specs.Sheets.{joined, lineText}
 use Rattle.digits.specs.Texts.{cut}
 use Rattle.digits.proofs.Digits.{pairs-length}
-use Rattle.asked.specs.declared.Call.{Call}
-use Rattle.asked.specs.declared.Call.the-variants.{Tick, Epc, Read, Write, PowerOn, HardReset, SoftReset, StartStop, Next, Answer as AnswerCall, Sense, Log}
+use Rattle.asked.specs.declared.CallLine.{CallLine}
+use Rattle.asked.specs.declared.CallLine.the-variants.{Plain, StartStop, Next, Answer as AnswerCall, Sense, Log}
 use Rattle.asked.specs.declared.Line.{Line}
 use Rattle.asked.specs.declared.Line.the-variants.{Blank, Wrong, Asks, Sets, Opens, Closes, Shows, Tables}
 use Rattle.asked.specs.declared.Part.{Part}
-use Rattle.blocks.specs.Parts.{partsOf}
+use Rattle.asked.specs.Records.{partsOf}
 use Rattle.blocks.specs.Sessions.{drafted, closed}
-use Rattle.blocks.specs.Spelling.{partText, partLines, shown}
+use Rattle.spelling.specs.Spelling.{partText, partLines, shown}
 use Rattle.blocks.specs.declared.Session.{Session}
-use Rattle.script.specs.Calls.{cdbIn}
-use Rattle.script.specs.Lines.{lineIn, lineOf}
+use Rattle.commands.specs.Commands.{cdbIn}
+use Rattle.words.specs.Lines.{lineIn}
+use Rattle.script.specs.Lines.{lineOfText}
 use Rattle.table.specs.Table.{texts, tableLines}
-use Rattle.replies.specs.Answers.{calledText, acceptedText, sentText, progressText, beforeBytes}
+use Rattle.phrases.specs.Phrases.{calledText, acceptedText, sentText, progressText, beforeBytes}
 use Rattle.replies.specs.Lines.{isEnd, silent, okOrError, saysOk, inBlock, outside, response}
-use Rattle.replies.specs.Replies.{calledReply, ticks, lentLen, lent, filledPieces, filledReply, callReply}
+use Rattle.answers.specs.Answers.{calledResponse, plainOutcome, bufferLength, unfilled, filledPieces, filledResponse, callResponse}
 
 -- ---- lines
 
@@ -92,8 +94,8 @@ table-fits u =
 
 -- ---- the bytes that `sense` and `log` print
 
-lent-within : (len : ℕ) → length (lent len) ≤ 0x400
-lent-within len = rw (length-replicate {A = ℕ} (lentLen len) 0xA5) (on (ltb len 0x400) refl)
+lent-within : (len : ℕ) → length (unfilled len) ≤ 0x400
+lent-within len = rw (length-replicate {A = ℕ} (bufferLength len) 0xA5) (on (ltb len 0x400) refl)
   where
     on : (t : Bool) → ltb len 0x400 ≡ t → cond t len 0x400 ≤ 0x400
     on true e = omega (arith, ltb-true len 0x400 e)
@@ -133,9 +135,10 @@ log-clear u buffer e = rows-clear (wellFormed u) (not (eqb (length buffer) 512))
 log-within : (u : Unit) (buffer : List ℕ) → length buffer ≤ 0x400 → length (logOutcome u buffer .buffer) ≤ 0x400
 unfolding logOutcome
 log-within u buffer h =
-    let page = logPage (u .drive .records) in
-    let small : lowest (logRows u buffer) ≡ Clear → length page ≤ 0x400 = λ e. omega (arith, page-512 (u .drive .records) (five-records u (log-clear u buffer e))) in
-    filled-within u u page buffer (lowest (logRows u buffer)) small h
+    let page = logBytes (u .drive .records) in
+    let given = lowest (logRows u buffer) in
+    let five : given ≡ Clear → length (u .drive .records) ≡ 5 = λ e. five-records u (log-clear u buffer e) in
+    filled-within u u page buffer given (λ e. omega (arith, page-512 (u .drive .records) (five e))) h
 
 bytes-within : (bs : List ℕ) → length bs ≤ 0x400 → length (bytesText bs) ≤ 2048
 bytes-within [] h = omega arith
@@ -149,26 +152,20 @@ filled-fits a bs h =
 
 -- ---- the answer
 
-called-fits : (c : Called) → Fits (calledReply c .pieces)
+called-fits : (c : Called) → Fits (calledResponse c .pieces)
 called-fits c = line-fits (calledText (c .answer))
 
-reply-fits : (f : Filled) → length (f .buffer) ≤ 0x400 → Fits (filledReply f .pieces)
+reply-fits : (f : Filled) → length (f .buffer) ≤ 0x400 → Fits (filledResponse f .pieces)
 reply-fits f h = filled-fits (f .called .answer) (f .buffer) h
 
-call-fits : (u : Unit) (c : Call) (text : List ℕ) → Fits (callReply u c text .pieces)
-unfolding callReply
-call-fits u (Tick n) text = called-fits (ticks n u)
-call-fits u (Epc q) text = called-fits (epcOutcome u q)
-call-fits u (Read host) text = called-fits (readOutcome u host)
-call-fits u (Write host) text = called-fits (writeOutcome u host)
-call-fits u PowerOn text = called-fits (powerOnOutcome u)
-call-fits u HardReset text = called-fits (resetOutcome u)
-call-fits u SoftReset text = called-fits (resetOutcome u)
+call-fits : (u : Unit) (c : CallLine) (text : List ℕ) → Fits (callResponse u c text .pieces)
+unfolding callResponse
+call-fits u (Plain call) text = called-fits (plainOutcome u call)
 call-fits u (StartStop host) text = line-fits (acceptedText (startStopOutcome u host (cdbIn (lineIn text)) .answer))
 call-fits u (Next host) text = line-fits (sentText (nextOutcome u host .answer))
 call-fits u (AnswerCall host reply) text = line-fits (progressText (answerOutcome u host reply .answer))
-call-fits u (Sense host len) text = reply-fits (senseOutcome u host (lent len)) (sense-within u host (lent len) (lent-within len))
-call-fits u (Log len) text = reply-fits (logOutcome u (lent len)) (log-within u (lent len) (lent-within len))
+call-fits u (Sense host len) text = reply-fits (senseOutcome u host (unfilled len)) (sense-within u host (unfilled len) (lent-within len))
+call-fits u (Log len) text = reply-fits (logOutcome u (unfilled len)) (log-within u (unfilled len) (lent-within len))
 
 pub ok-fits : (good : Bool) → Fits (okOrError good)
 ok-fits good = line-fits (cond good (codes "ok") (codes "error"))
@@ -194,6 +191,6 @@ pub answer-fits : (s : Session) (text : List ℕ) → Fits (response s text .pie
 unfolding response
 answer-fits s text = on (s .is_open)
   where
-    on : (t : Bool) → Fits (cond t (inBlock s (lineOf text)) (outside s (lineOf text) text) .pieces)
-    on true = block-fits s (lineOf text)
-    on false = outside-fits s (lineOf text) text
+    on : (t : Bool) → Fits (cond t (inBlock s (lineOfText text)) (outside s (lineOfText text) text) .pieces)
+    on true = block-fits s (lineOfText text)
+    on false = outside-fits s (lineOfText text) text

@@ -6,12 +6,12 @@ use Rattle.words.specs.Codes.{codes}
 use Rattle.digits.specs.Sheets.{lineText}
 use Rattle.asked.specs.declared.Line.{Line}
 use Rattle.asked.specs.declared.Line.the-variants.{Blank, Wrong, Asks, Sets, Opens, Closes, Shows, Tables}
-use Rattle.script.specs.Lines.{lineOf}
+use Rattle.script.specs.Lines.{lineOfText}
 use Rattle.blocks.specs.Sessions.{withUnit, opened, drafted, closed}
-use Rattle.blocks.specs.Spelling.{shown}
+use Rattle.spelling.specs.Spelling.{shown}
 use Rattle.blocks.specs.declared.Session.{Session}
 use Rattle.table.specs.Table.{tableLines}
-use Rattle.replies.specs.Replies.{Reply, callReply}
+use Rattle.answers.specs.Answers.{CallResponse, callResponse}
 
 -- The session after a line, and what is printed, piece by piece.
 pub record Response : Type 0 where
@@ -41,14 +41,14 @@ isEnd Tables = false
 abbrev pub inBlock : Session → Line → Response
 inBlock s line = cond (isEnd line) (saysOk (s .good) (closed s)) (silent (drafted line s))
 
-abbrev pub replied : Session → Reply → Response
+abbrev pub replied : Session → CallResponse → Response
 replied s r = record { session = withUnit (r .unit) s; pieces = r .pieces }
 
 -- "A line with no word prints nothing." "`end` outside a block is `error`".
 abbrev pub outside : Session → Line → List ℕ → Response
 outside s Blank text = silent s
 outside s Wrong text = saysOk false s
-outside s (Asks c) text = replied s (callReply (s .unit) c text)
+outside s (Asks c) text = replied s (callResponse (s .unit) c text)
 outside s (Sets p) text = saysOk false s
 outside s Opens text = silent (opened s)
 outside s Closes text = saysOk false s
@@ -57,4 +57,4 @@ outside s Tables text = record { session = s; pieces = tableLines (s .unit) }
 
 -- What the line whose bytes before the LF are `text` gets.
 unfoldable pub response : Session → List ℕ → Response
-response s text = cond (s .is_open) (inBlock s (lineOf text)) (outside s (lineOf text) text)
+response s text = cond (s .is_open) (inBlock s (lineOfText text)) (outside s (lineOfText text) text)

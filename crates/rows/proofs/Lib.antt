@@ -1,3 +1,4 @@
+pub mod Choices
 pub mod Copied
 pub mod Folds
 pub mod Last

@@ -1,17 +1,21 @@
 -- Runs that are computed: one name for all that a step looks into.
 use Rattle.drive.specs.Records.{recordWellFormed, recordsWellFormed, driveWellFormed}
 use Rattle.drive.specs.Drives.{timersAsk, ticked, used, poweredOn, made}
-use Rattle.pages.specs.Senses.{senseBytes}
+use Rattle.senses.specs.Senses.{senseBytes}
 use Rattle.epc.specs.Epc.{aborts, performed}
 use Rattle.unit.specs.Units.{hostsWellFormed, wellFormed}
-use Rattle.unit.specs.Refusals.{lowest}
-use Rattle.unit.specs.Calls.{epcOutcome, tickOutcome, readOutcome, writeOutcome, powerOnOutcome, resetOutcome, senseOutcome, logOutcome}
-use Rattle.bridge.specs.Cdb.{wanted, isListed}
-use Rattle.bridge.specs.Operations.{answeredFor}
-use Rattle.bridge.specs.Bridge.{startStopOutcome, nextOutcome, answerOutcome}
+use Rattle.refusals.specs.Refusals.{lowest}
+use Rattle.engine.specs.Engine.{epcOutcome, tickOutcome, readOutcome, writeOutcome, powerOnOutcome, resetOutcome}
+use Rattle.readouts.specs.Readouts.{senseOutcome, logOutcome}
+use Rattle.cdb.specs.Cdb.{wanted, isListed}
+use Rattle.exchange.specs.Answered.{answeredFor}
+use Rattle.bridge.specs.Bridge.{startStopOutcome}
+use Rattle.exchange.specs.Exchange.{nextOutcome, answerOutcome}
 use Rattle.calls.specs.Calls.{StepFunction, outcome}
 
 -- The layer's step. Who says `unfolding computed` has open what its line names, and so can compute a run of these calls.
 unfoldable pub computed : StepFunction
-unfolding recordWellFormed recordsWellFormed driveWellFormed timersAsk ticked used poweredOn made senseBytes aborts performed hostsWellFormed wellFormed lowest epcOutcome tickOutcome readOutcome writeOutcome powerOnOutcome resetOutcome senseOutcome logOutcome wanted isListed answeredFor startStopOutcome nextOutcome answerOutcome
+unfolding recordWellFormed recordsWellFormed driveWellFormed timersAsk ticked used poweredOn made senseBytes aborts performed
+    hostsWellFormed wellFormed lowest epcOutcome tickOutcome readOutcome writeOutcome powerOnOutcome resetOutcome senseOutcome logOutcome
+    wanted isListed answeredFor startStopOutcome nextOutcome answerOutcome
 computed = outcome

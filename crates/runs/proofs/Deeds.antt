@@ -1,40 +1,53 @@
--- What a call comes to, and the record that it leaves: one of the cases below. Every fact over runs goes through here, by a table of these cases.
+-- What a call comes to, and the record that it leaves: one of the cases below. Every fact over runs goes through here, by a table of these cases; the
+-- calls that are no part of an operation need one row of it together, but where each has to be looked at by itself.
 use mathlib.Core.Path.{_≡_, refl, sym, ap, _∙_}
 use mathlib.Core.Bool.{Bool, true, false, cond, false≢true, true≢false}
 use mathlib.Core.List.{List}
 use Prim.Native.Nat.{ℕ}
 use lib.Dec.{eqb}
-use Rattle.epc.specs.Epc.{aborts as epcAborts}
-use Rattle.epc.specs.declared.Registers.{Registers}
-use Rattle.epc.proofs.Effects.{either}
-use Rattle.unit.specs.Units.{slotOf, withSlot, rested}
-use Rattle.unit.specs.Refusals.{numberOf, lowest, afterRefusal}
-use Rattle.unit.specs.Calls.{epcRows, mediumRows, senseRows, logRows, epcEffect, tickEffect, readEffect, writeEffect, powerOnEffect, hardResetEffect, senseEffect}
-use Rattle.unit.specs.declared.Refusal.{Refusal}
-use Rattle.unit.specs.declared.Refusal.the-variants.{BadLength, BadHost, BadRecord, CommandOut, HasNone, OwnWaiting, BadOpcode, BadField, IsStopped, Aborted}
-use Rattle.unit.specs.declared.Verdict.{Verdict}
-use Rattle.unit.specs.declared.Verdict.the-variants.{Clear, Given}
-use Rattle.unit.specs.declared.Target.{Target}
-use Rattle.unit.specs.declared.Request.{Request}
+use lib.ListN.{replicate}
+use borrow.Author.Tests.{eqb-false}
+use Rattle.drive.specs.Drives.{used}
+use Rattle.drive.specs.declared.Tenths.{Tenths}
+use Rattle.drive.proofs.Used.{used-leaves, powered-on-leaves}
+use Rattle.epc.specs.Epc.{aborts}
+use Rattle.registers.specs.declared.Registers.{Registers}
+use Rattle.rows.proofs.Choices.{either}
+use Rattle.epc.proofs.Effects.{idle-after}
+use Rattle.unit.specs.Units.{emptySlot, slotOf, heldOf, isOut, withSlot, rested}
+use Rattle.refusals.specs.Refusals.{lowest, isSame}
+use Rattle.refusals.proofs.Ranks.{is-same}
+use Rattle.engine.specs.Engine.{epcRows, mediumRows, epcEffect, tickEffect, readEffect, writeEffect, powerOnEffect, hardResetEffect}
+use Rattle.readouts.specs.Readouts.{senseRows, logRows, senseEffect}
+use Rattle.refusals.specs.declared.Refusal.{Refusal}
+use Rattle.refusals.specs.declared.Refusal.the-variants.{CommandOut, Aborted}
+use Rattle.refusals.specs.declared.Verdict.{Verdict}
+use Rattle.refusals.specs.declared.Verdict.the-variants.{Clear, Given}
+use Rattle.requests.specs.declared.Target.{Target}
+use Rattle.requests.specs.declared.Request.{Request}
 use Rattle.unit.specs.declared.Slot.the-variants.{Waiting}
-use Rattle.unit.specs.declared.Failure.the-variants.{CommandSequence}
+use Rattle.unit.specs.declared.Held.the-variants.{Nothing}
+use Rattle.unit.specs.declared.Out.the-variants.{NoneOut}
 use Rattle.unit.specs.declared.Unit.{Unit}
-use Rattle.bridge.specs.Cdb.{wanted, requestFor}
-use Rattle.bridge.specs.Operations.{registersOf, oneMore, flushesOf, dueFrom, isFlush, countsAsGood, reportGood, reportFailed, flushedWell, failed, succeeded, flushAnswered, lastAnswered, answeredFor}
-use Rattle.bridge.specs.Bridge.{startStopRows, startStopEffect, nextRows, nextEffect, nextSettled, nextOutcome, answerRows, answerSettled, answerOutcome}
-use Rattle.bridge.specs.declared.Wanted.the-variants.{Wants}
-use Rattle.bridge.specs.declared.Reply.{Reply}
-use Rattle.bridge.specs.declared.Reply.the-variants.{Good, Bad}
-use Rattle.bridge.specs.declared.Next.the-variants.{Send, NotSent}
-use Rattle.bridge.specs.declared.Progress.the-variants.{More, Ended, NotTaken}
-use Rattle.bridge.specs.declared.Report.{Report}
-use Rattle.bridge.specs.declared.Replied.{Replied}
+use Rattle.cdb.specs.Cdb.{wanted, requestFor}
+use Rattle.operations.specs.Operations.{failureOf, registersOf, oneMore, flushesOf, dueFrom, isFlush, countsAsGood, reportGood, reportFailed}
+use Rattle.exchange.specs.Answered.{flushedWell, failed, succeeded, flushAnswered, lastAnswered, answeredFor}
+use Rattle.bridge.specs.Bridge.{startStopRows, startStopEffect}
+use Rattle.exchange.specs.Exchange.{nextRows, nextEffect, nextSettled, nextOutcome, answerRows, answerSettled, answerOutcome}
+use Rattle.cdb.specs.declared.Wanted.the-variants.{Wants}
+use Rattle.requests.specs.declared.Reply.{Reply}
+use Rattle.requests.specs.declared.Reply.the-variants.{Good, Bad}
+use Rattle.operations.specs.declared.Next.the-variants.{Send, NotSent}
+use Rattle.operations.specs.declared.Progress.the-variants.{More, Ended, NotTaken}
+use Rattle.operations.specs.declared.Report.{Report}
+use Rattle.exchange.specs.declared.Replied.{Replied}
 use Rattle.calls.specs.Calls.{Call, setFeatures, tick, read, write, powerOn, hardReset, softReset, startStop, next, answer, requestSense, logPage, Said, plain, accepted, sent, progressed, outcome, step}
-use Rattle.calls.specs.Kinds.{isReset}
-use Rattle.calls.specs.Table.{verdictIn}
-use Rattle.calls.specs.Numbers.{appliesTo, ownRows, effect}
-use Rattle.calls.proofs.Numbers.{own-told, next-waiting, answer-waiting, refused-exactly, refusal-keeps, acceptance-does, start-wants}
-use Rattle.runs.specs.Deeds.{Deed, begins, sends, goesOn, ends, does, aborts, refuses, beginning, sending, answering, another, deedOf, doesA}
+use Rattle.calls.specs.Described.{isReset, isPowerOn, isWrite, isTickOrLog, isSenseOf, ownRows, effect}
+use Rattle.calls.specs.Table.{verdictIn, appliesTo}
+use Rattle.unit.proofs.Hosts.{other-held}
+use Rattle.refusals.proofs.Lowest.{not-applies}
+use Rattle.calls.proofs.Numbers.{own-told, next-waiting, answer-waiting, refused-exactly, refusal-keeps, acceptance-does, start-wants, abort-rests, other-keeps}
+use Rattle.runs.specs.Deeds.{Deed, begins, handsOut, goesOn, ends, does, wasAborted, wasRefused, ifHandsOut, ifEnds, doesA, beginning, sending, answering, another, deedOf}
 
 -- ---- the cases
 
@@ -43,26 +56,29 @@ pub record Taken (u : Unit) (host : ℕ) (q : Request) : Type 0 where
   pub clear : lowest (answerRows u host) ≡ Clear
   pub waiting : slotOf (u .slots) host ≡ Waiting q
 
--- A fact of the deed and of the record after it holds in every case of a call on the record u.
+-- A fact of the deed and of the record after it holds in every case of a call on the record u: refused, aborted, or a step of an operation,
 pub record Cases (P : Deed → Unit → Type 0) (u : Unit) : Type 0 where
-  pub refused : (c : Call) → P (refuses c) u
-  pub aborted : (q : Registers) → epcAborts q (u .drive .records) ≡ true → P (aborts (setFeatures q)) (rested u)
+  pub refused : (c : Call) → P (wasRefused c) u
+  pub aborted : (q : Registers) → aborts q (u .drive .records) ≡ true → P (wasAborted (setFeatures q)) (rested u)
   pub begun : (host : ℕ) (cdb : List ℕ) (t : Target) → lowest (startStopRows u host cdb) ≡ Clear → wanted cdb ≡ Wants t
       → P (begins host cdb) (withSlot host (Waiting (requestFor t cdb)) (rested u))
   pub asked : (host : ℕ) (q : Request) → lowest (nextRows u host) ≡ Clear → slotOf (u .slots) host ≡ Waiting q
-      → P (sends host (registersOf (dueFrom (u .unsaved) q))) (nextEffect host u)
+      → P (handsOut host (registersOf (dueFrom (u .unsaved) q))) (nextEffect host u)
   pub flushed : (host : ℕ) (q : Request) → Taken u host q → isFlush (dueFrom (u .unsaved) q) ≡ true
       → P (goesOn host Good) (flushedWell u host q .unit)
   pub flush-failed : (host : ℕ) (q : Request) → Taken u host q → isFlush (dueFrom (u .unsaved) q) ≡ true
-      → P (ends host Bad (reportFailed (q .immed) CommandSequence (oneMore (flushesOf (q .stage)))))
-      (failed u host q CommandSequence (oneMore (flushesOf (q .stage))) .unit)
+      → P (ends host Bad (reportFailed (q .immed) (failureOf (q .target)) (oneMore (flushesOf (q .stage)))))
+      (failed u host q (oneMore (flushesOf (q .stage))) .unit)
   pub last-succeeded : (host : ℕ) (reply : Reply) (q : Request) → Taken u host q → isFlush (dueFrom (u .unsaved) q) ≡ false
       → countsAsGood (q .target) reply ≡ true
       → P (ends host reply (reportGood (q .immed) (flushesOf (q .stage)))) (succeeded u host q .unit)
   pub last-failed : (host : ℕ) (reply : Reply) (q : Request) → Taken u host q → isFlush (dueFrom (u .unsaved) q) ≡ false
       → countsAsGood (q .target) reply ≡ false
-      → P (ends host reply (reportFailed (q .immed) CommandSequence (flushesOf (q .stage))))
-      (failed u host q CommandSequence (flushesOf (q .stage)) .unit)
+      → P (ends host reply (reportFailed (q .immed) (failureOf (q .target)) (flushesOf (q .stage))))
+      (failed u host q (flushesOf (q .stage)) .unit)
+
+-- or another call, accepted: one row for each.
+pub record Others (P : Deed → Unit → Type 0) (u : Unit) : Type 0 where
   pub epc : (q : Registers) → lowest (epcRows u q) ≡ Clear → P (does (setFeatures q)) (epcEffect q u)
   pub ticks : P (does tick) (tickEffect u)
   pub reads : (host : ℕ) → lowest (mediumRows u host) ≡ Clear → P (does (read host)) (readEffect u)
@@ -78,49 +94,53 @@ pub record Cases (P : Deed → Unit → Type 0) (u : Unit) : Type 0 where
 abbrev pub deedAt : Unit → Call → Deed
 deedAt u c = deedOf c (outcome u c .said)
 
--- ---- a refused call
+-- ---- what a call is to an operation
 
--- Every refusal but number 10 leaves the record, and number 10 is EPC's alone.
-refused-kept : (u : Unit) (c : Call) (r : Refusal) → appliesTo u c Aborted ≡ false → verdictIn (outcome u c .said) ≡ Given r → step u c ≡ u
-refused-kept u c BadLength not-ten e = refusal-keeps u c BadLength e .0
-refused-kept u c BadHost not-ten e = refusal-keeps u c BadHost e .0
-refused-kept u c BadRecord not-ten e = refusal-keeps u c BadRecord e .0
-refused-kept u c CommandOut not-ten e = refusal-keeps u c CommandOut e .0
-refused-kept u c HasNone not-ten e = refusal-keeps u c HasNone e .0
-refused-kept u c OwnWaiting not-ten e = refusal-keeps u c OwnWaiting e .0
-refused-kept u c BadOpcode not-ten e = refusal-keeps u c BadOpcode e .0
-refused-kept u c BadField not-ten e = refusal-keeps u c BadField e .0
-refused-kept u c IsStopped not-ten e = refusal-keeps u c IsStopped e .0
-refused-kept u c Aborted not-ten e = absurd (true≢false (sym (refused-exactly u c Aborted .0 e .applies) ∙ not-ten))
+-- A call is START STOP UNIT, a host's question, the drive's answer, or one that is no part of an operation.
+pub data Turn : Call → Type 0 where
+  starts : (host : ℕ) (cdb : List ℕ) → Turn (startStop host cdb)
+  asks : (host : ℕ) → Turn (next host)
+  answers : (host : ℕ) (reply : Reply) → Turn (answer host reply)
+  apart : (c : Call) → ((said : Said) → deedOf c said ≡ another c (verdictIn said)) → Turn c
+
+pub turn : (c : Call) → Turn c
+turn (setFeatures q) = apart (setFeatures q) (λ said. refl)
+turn tick = apart tick (λ said. refl)
+turn (read host) = apart (read host) (λ said. refl)
+turn (write host) = apart (write host) (λ said. refl)
+turn powerOn = apart powerOn (λ said. refl)
+turn hardReset = apart hardReset (λ said. refl)
+turn softReset = apart softReset (λ said. refl)
+turn (startStop host cdb) = starts host cdb
+turn (next host) = asks host
+turn (answer host reply) = answers host reply
+turn (requestSense host buffer) = apart (requestSense host buffer) (λ said. refl)
+turn (logPage buffer) = apart (logPage buffer) (λ said. refl)
+
+-- ---- a refused call
 
 never : {A : Type 0} → false ≡ true → A
 never h = absurd (false≢true h)
 
-module _ (P : Deed → Unit → Type 0) (u : Unit) (cases : Cases P u) where
+module _ (P : Deed → Unit → Type 0) (u : Unit) (cases : Cases P u) (others : Others P u) where
   -- number 10 or another one
-  refusing : (c : Call) (r : Refusal) → (r ≡ Aborted → P (aborts c) (rested u)) → P (another c (Given r)) (afterRefusal r u)
-  refusing c BadLength k = cases .refused c
-  refusing c BadHost k = cases .refused c
-  refusing c BadRecord k = cases .refused c
-  refusing c CommandOut k = cases .refused c
-  refusing c HasNone k = cases .refused c
-  refusing c OwnWaiting k = cases .refused c
-  refusing c BadOpcode k = cases .refused c
-  refusing c BadField k = cases .refused c
-  refusing c IsStopped k = cases .refused c
-  refusing c Aborted k = k refl
+  refusing : (c : Call) (r : Refusal) → verdictIn (outcome u c .said) ≡ Given r → (r ≡ Aborted → P (wasAborted c) (rested u))
+      → (b : Bool) → isSame r Aborted ≡ b → P (cond b (wasAborted c) (wasRefused c)) (step u c)
+  refusing c r e tenth true same =
+      let ten = is-same r Aborted same in
+      rw (abort-rests u c (e ∙ ap Given ten) .1) (tenth ten)
+  refusing c r e tenth false other = rw (refusal-keeps u c r e other) (cases .refused c)
 
   -- ---- the calls that are no part of an operation
 
-  other : (c : Call) → (lowest (ownRows u c) ≡ Clear → P (does c) (effect u c)) → (appliesTo u c Aborted ≡ true → P (aborts c) (rested u))
+  other : (c : Call) → (lowest (ownRows u c) ≡ Clear → P (does c) (effect u c)) → (appliesTo u c Aborted ≡ true → P (wasAborted c) (rested u))
       → P (another c (verdictIn (outcome u c .said))) (step u c)
   other c accepts tenth = on (verdictIn (outcome u c .said)) refl
     where
       on : (v : Verdict) → verdictIn (outcome u c .said) ≡ v → P (another c v) (step u c)
       on Clear e = rw (acceptance-does u c e .0) (accepts (sym (own-told u c) ∙ e))
       on (Given r) e =
-          rw (refusal-keeps u c r e .0)
-          (refusing c r (λ ten. tenth (refused-exactly u c Aborted .0 (e ∙ ap Given ten) .applies)))
+          refusing c r e (λ ten. tenth (refused-exactly u c Aborted .0 (e ∙ ap Given ten) .itself)) (isSame r Aborted) refl
 
   -- ---- START STOP UNIT
 
@@ -136,22 +156,19 @@ module _ (P : Deed → Unit → Type 0) (u : Unit) (cases : Cases P u) where
           let clear = sym (own-told u (startStop host cdb)) ∙ e in
           let wants = start-wants u host cdb clear in
           rw (acceptance-does u (startStop host cdb) e .0) (begin (wants .0) (wants .1) clear)
-      on (Given r) e = rw (refused-kept u (startStop host cdb) r refl e) (cases .refused (startStop host cdb))
+      on (Given r) e = rw (other-keeps u (startStop host cdb) r e refl) (cases .refused (startStop host cdb))
 
   -- ---- the next command
 
-  asks : (host : ℕ) → P (sending host (outcome u (next host) .said)) (step u (next host))
+  asked : (host : ℕ) → P (sending host (outcome u (next host) .said)) (step u (next host))
   unfolding nextOutcome
-  asks host = on (lowest (nextRows u host)) refl
+  asked host = on (lowest (nextRows u host)) refl
     where
       on : (v : Verdict) → lowest (nextRows u host) ≡ v → P (sending host (sent (nextSettled u host v .answer))) (nextSettled u host v .unit)
       on Clear e =
           let w = next-waiting u host e in
           rw (w .1) (cases .asked host (w .0) e (w .1))
-      on (Given r) e =
-          let kept : afterRefusal r u ≡ u = sym (refusal-keeps u (next host) r (own-told u (next host) ∙ e) .0)
-          ∙ refused-kept u (next host) r refl (own-told u (next host) ∙ e) in
-          rw kept (cases .refused (next host))
+      on (Given r) e = cases .refused (next host)
 
   -- ---- the answer
 
@@ -163,12 +180,13 @@ module _ (P : Deed → Unit → Type 0) (u : Unit) (cases : Cases P u) where
     unfolding answeredFor
     replied q taken = on (isFlush (dueFrom (u .unsaved) q)) refl
       where
-        to-flush : isFlush (dueFrom (u .unsaved) q) ≡ true → (reply : Reply) → P (answering host reply (progressed (flushAnswered u host q reply .answer))) (flushAnswered u host q reply .unit)
+        to-flush : isFlush (dueFrom (u .unsaved) q) ≡ true → (reply : Reply)
+            → P (answering host reply (progressed (flushAnswered u host q reply .answer))) (flushAnswered u host q reply .unit)
         to-flush f Good = cases .flushed host q taken f
         to-flush f Bad = cases .flush-failed host q taken f
 
         to-last : isFlush (dueFrom (u .unsaved) q) ≡ false → (good : Bool) → countsAsGood (q .target) reply ≡ good
-            → Q (cond good (succeeded u host q) (failed u host q CommandSequence (flushesOf (q .stage))))
+            → Q (cond good (succeeded u host q) (failed u host q (flushesOf (q .stage))))
         to-last f true g = cases .last-succeeded host reply q taken f g
         to-last f false g = cases .last-failed host reply q taken f g
 
@@ -176,93 +194,133 @@ module _ (P : Deed → Unit → Type 0) (u : Unit) (cases : Cases P u) where
         on true f = to-flush f reply
         on false f = to-last f (countsAsGood (q .target) reply) refl
 
-    answers : P (answering host reply (outcome u (answer host reply) .said)) (step u (answer host reply))
+    answered : P (answering host reply (outcome u (answer host reply) .said)) (step u (answer host reply))
     unfolding answerOutcome
-    answers = on (lowest (answerRows u host)) refl
+    answered = on (lowest (answerRows u host)) refl
       where
         on : (v : Verdict) → lowest (answerRows u host) ≡ v → Q (answerSettled u host reply v)
         on Clear e =
             let w = answer-waiting u host e in
             rw (w .1) (replied (w .0) (record { clear = e; waiting = w .1 }))
-        on (Given r) e =
-            let told = own-told u (answer host reply) ∙ e in
-            let kept : afterRefusal r u ≡ u = sym (refusal-keeps u (answer host reply) r told .0) ∙ refused-kept u (answer host reply) r refl told in
-            rw kept (cases .refused (answer host reply))
+        on (Given r) e = cases .refused (answer host reply)
 
   -- What holds in every case holds of the deed of every call and of the record that it leaves.
   pub by-deed : (c : Call) → P (deedAt u c) (step u c)
-  by-deed (setFeatures q) = other (setFeatures q) (cases .epc q) (cases .aborted q)
-  by-deed tick = other tick (λ e. cases .ticks) never
-  by-deed (read host) = other (read host) (cases .reads host) never
-  by-deed (write host) = other (write host) (cases .writes host) never
-  by-deed powerOn = other powerOn (λ e. cases .powers-on) never
-  by-deed hardReset = other hardReset (λ e. cases .resets-hard) never
-  by-deed softReset = other softReset (λ e. cases .resets-soft) never
+  by-deed (setFeatures q) = other (setFeatures q) (others .epc q) (cases .aborted q)
+  by-deed tick = other tick (λ e. others .ticks) never
+  by-deed (read host) = other (read host) (others .reads host) never
+  by-deed (write host) = other (write host) (others .writes host) never
+  by-deed powerOn = other powerOn (λ e. others .powers-on) never
+  by-deed hardReset = other hardReset (λ e. others .resets-hard) never
+  by-deed softReset = other softReset (λ e. others .resets-soft) never
   by-deed (startStop host cdb) = starts-stops host cdb
-  by-deed (next host) = asks host
-  by-deed (answer host reply) = answers host reply
-  by-deed (requestSense host buffer) = other (requestSense host buffer) (cases .tells host buffer) never
-  by-deed (logPage buffer) = other (logPage buffer) (cases .logs buffer) never
+  by-deed (next host) = asked host
+  by-deed (answer host reply) = answered host reply
+  by-deed (requestSense host buffer) = other (requestSense host buffer) (others .tells host buffer) never
+  by-deed (logPage buffer) = other (logPage buffer) (others .logs buffer) never
+
+-- ---- the calls that are no part of an operation, in one row
+
+abbrev Is : Call → Bool → Bool → Bool → Type 0
+Is c resetting writing powering = (isReset c ≡ resetting) × (isWrite c ≡ writing) × (isPowerOn c ≡ powering)
+
+-- What such a call, accepted, leaves of the slots, of what is out and of the unsaved mark.
+pub data Leaves (u : Unit) (c : Call) (v : Unit) : Type 0 where
+  -- a reset leaves nothing waiting and nothing out
+  sweeps : (power-on : Bool) → Is c true false power-on → v .slots ≡ replicate 4 emptySlot → v .out ≡ NoneOut
+      → v .unsaved ≡ cond power-on false (u .unsaved) → Leaves u c v
+  -- a write comes while nothing is out
+  marks : Is c false true false → isOut (u .out) ≡ false → v .slots ≡ u .slots → v .out ≡ u .out → v .unsaved ≡ true → Leaves u c v
+  -- any other leaves all three
+  passes : Is c false false false → v .slots ≡ u .slots → v .out ≡ u .out → v .unsaved ≡ u .unsaved → Leaves u c v
+
+-- All that is asked of such a call where it is not looked at by itself: also of the held senses and of the idle count.
+pub record Done (u : Unit) (c : Call) (v : Unit) : Type 0 where
+  pub leaves : Leaves u c v
+  pub held : (k : ℕ) → isReset c ≡ false → isSenseOf (λ host. eqb host k) c ≡ false → heldOf (v .held) k ≡ heldOf (u .held) k
+  pub idle : isTickOrLog c ≡ false → v .drive .idle .0 ≡ 0
+
+-- One row for all of them.
+module _ (P : Deed → Unit → Type 0) (u : Unit) (done : (c : Call) (v : Unit) → Done u c v → P (does c) v) where
+  row : (c : Call) (v : Unit) → Leaves u c v
+      → ((k : ℕ) → isReset c ≡ false → isSenseOf (λ host. eqb host k) c ≡ false → heldOf (v .held) k ≡ heldOf (u .held) k)
+      → (isTickOrLog c ≡ false → v .drive .idle .0 ≡ 0) → P (does c) v
+  row c v leaves held idle = done c v (record { leaves = leaves; held = held; idle = idle })
+
+  pub all-others : Others P u
+  all-others = record {
+    epc = λ q clear. row (setFeatures q) _ (passes (refl, refl, refl) refl refl refl) (λ k r s. refl) (λ i. idle-after q (u .drive));
+    ticks =
+        row tick _ (either (Leaves u tick) (isOut (u .out)) _ _ (passes (refl, refl, refl) refl refl refl) (passes (refl, refl, refl) refl refl refl))
+        (λ k r s. either (λ (v : Unit). heldOf (v .held) k ≡ heldOf (u .held) k) (isOut (u .out)) _ _ refl refl) (λ i. absurd (true≢false i));
+    reads = λ host clear. row (read host) _ (passes (refl, refl, refl) refl refl refl) (λ k r s. refl) (λ i. used-idle);
+    writes = λ host clear.
+        row (write host) _ (marks (refl, refl, refl) (not-applies (mediumRows u host) CommandOut clear) refl refl refl) (λ k r s. refl) (λ i. used-idle);
+    powers-on =
+        row powerOn _ (sweeps true (refl, refl, refl) refl refl refl) (λ k r. absurd (true≢false r))
+        (λ i. ap (λ (t : Tenths). t .0) (powered-on-leaves (u .drive) .2));
+    resets-hard = row hardReset _ (sweeps false (refl, refl, refl) refl refl refl) (λ k r. absurd (true≢false r)) (λ i. refl);
+    resets-soft = row softReset _ (sweeps false (refl, refl, refl) refl refl refl) (λ k r. absurd (true≢false r)) (λ i. refl);
+    tells = λ host buffer clear.
+        row (requestSense host buffer) _ (passes (refl, refl, refl) refl refl refl)
+        (λ k r other. other-held host k (λ same. eqb-false host k other (sym same)) (u .held) Nothing) (λ i. refl);
+    logs = λ buffer clear. row (logPage buffer) _ (passes (refl, refl, refl) refl refl refl) (λ k r s. refl) (λ i. absurd (true≢false i));
+  }
+    where
+      used-idle : used (u .drive) .idle .0 ≡ 0
+      used-idle = ap (λ (t : Tenths). t .0) (used-leaves (u .drive) .2)
 
 -- ---- a command handed out, and the end of an operation
 
--- A fact of a command that is handed out, and one of an end report with the record after it, hold in every way that these come about.
-pub record Tellings (S : ℕ → Registers → Type 0) (E : ℕ → Reply → Report → Unit → Type 0) (u : Unit) : Type 0 where
-  pub asked : (host : ℕ) (q : Request) → slotOf (u .slots) host ≡ Waiting q → S host (registersOf (dueFrom (u .unsaved) q))
+-- A fact of an end report with the record after it holds in every way that an operation ends.
+pub record Endings (E : ℕ → Reply → Report → Unit → Type 0) (u : Unit) : Type 0 where
   pub flush-failed : (host : ℕ) (q : Request) → Taken u host q → isFlush (dueFrom (u .unsaved) q) ≡ true
       → let n = oneMore (flushesOf (q .stage)) in
-      E host Bad (reportFailed (q .immed) CommandSequence n) (failed u host q CommandSequence n .unit)
+      E host Bad (reportFailed (q .immed) (failureOf (q .target)) n) (failed u host q n .unit)
   pub last-succeeded : (host : ℕ) (reply : Reply) (q : Request) → Taken u host q → isFlush (dueFrom (u .unsaved) q) ≡ false
       → countsAsGood (q .target) reply ≡ true → E host reply (reportGood (q .immed) (flushesOf (q .stage))) (succeeded u host q .unit)
   pub last-failed : (host : ℕ) (reply : Reply) (q : Request) → Taken u host q → isFlush (dueFrom (u .unsaved) q) ≡ false
       → countsAsGood (q .target) reply ≡ false → let n = flushesOf (q .stage) in
-      E host reply (reportFailed (q .immed) CommandSequence n) (failed u host q CommandSequence n .unit)
+      E host reply (reportFailed (q .immed) (failureOf (q .target)) n) (failed u host q n .unit)
 
-module _ (S : ℕ → Registers → Type 0) (E : ℕ → Reply → Report → Unit → Type 0) (u : Unit) (tellings : Tellings S E u) where
-  abbrev Told : Deed → Unit → Type 0
-  Told (begins host cdb) v = Prim.Unit {0}
-  Told (sends host q) v = S host q
-  Told (goesOn host reply) v = Prim.Unit {0}
-  Told (ends host reply report) v = E host reply report v
-  Told (does c) v = Prim.Unit {0}
-  Told (aborts c) v = Prim.Unit {0}
-  Told (refuses c) v = Prim.Unit {0}
+-- A fact of a command that is handed out holds of what is due to a waiting operation.
+abbrev pub Handings : (ℕ → Registers → Type 0) → Unit → Type 0
+Handings S u = (host : ℕ) (q : Request) → slotOf (u .slots) host ≡ Waiting q → S host (registersOf (dueFrom (u .unsaved) q))
 
-  told : (c : Call) → Told (deedAt u c) (step u c)
-  told = by-deed Told u (record {
+module _ (S : ℕ → Registers → Type 0) (E : ℕ → Reply → Report → Unit → Type 0) (u : Unit) (handings : Handings S u) (endings : Endings E u) where
+  abbrev Telling : Deed → Unit → Type 0
+  Telling d v = ifHandsOut S (ifEnds (λ host reply report. E host reply report v) (Prim.Unit {0}) d) d
+
+  telling : (c : Call) → Telling (deedAt u c) (step u c)
+  telling = by-deed Telling u (record {
     refused = λ c. tt;
     aborted = λ q ten. tt;
     begun = λ host cdb t clear wants. tt;
-    asked = λ host q clear. tellings .asked host q;
+    asked = λ host q clear. handings host q;
     flushed = λ host q taken f. tt;
-    flush-failed = tellings .flush-failed;
-    last-succeeded = tellings .last-succeeded;
-    last-failed = tellings .last-failed;
-    epc = λ q clear. tt;
-    ticks = tt;
-    reads = λ host clear. tt;
-    writes = λ host clear. tt;
-    powers-on = tt;
-    resets-hard = tt;
-    resets-soft = tt;
-    tells = λ host buffer clear. tt;
-    logs = λ buffer clear. tt;
-  })
+    flush-failed = endings .flush-failed;
+    last-succeeded = endings .last-succeeded;
+    last-failed = endings .last-failed;
+  }) (all-others Telling u (λ c v did. tt))
 
-  -- So they hold of the command that a host is handed, and of the end report that an answer brings.
-  pub when-sent : (host : ℕ) (q : Registers) → deedAt u (next host) ≡ sends host q → S host q
-  when-sent host q e = rw e at (told (next host))
+-- So they hold of the command that a host is handed, and of the end report that an answer brings.
+pub when-sent : (S : ℕ → Registers → Type 0) (u : Unit) → Handings S u → (host : ℕ) (q : Registers) → deedAt u (next host) ≡ handsOut host q → S host q
+when-sent S u handings host q e = rw e at (telling S (λ host reply report v. Prim.Unit {0}) u handings (record {
+  flush-failed = λ host q taken f. tt;
+  last-succeeded = λ host reply q taken f g. tt;
+  last-failed = λ host reply q taken f g. tt;
+}) (next host))
 
-  pub when-ended : (host : ℕ) (reply : Reply) (report : Report) → deedAt u (answer host reply) ≡ ends host reply report
-      → E host reply report (step u (answer host reply))
-  when-ended host reply report e = rw e at (told (answer host reply))
+pub when-ended : (E : ℕ → Reply → Report → Unit → Type 0) (u : Unit) → Endings E u → (host : ℕ) (reply : Reply) (report : Report)
+    → deedAt u (answer host reply) ≡ ends host reply report → E host reply report (step u (answer host reply))
+when-ended E u endings host reply report e = rw e at (telling (λ host q. Prim.Unit {0}) E u (λ host q waits. tt) endings (answer host reply))
 
 -- ---- only a reset comes to the deed of a reset
 
 another-reset : (c : Call) (v : Verdict) → doesA isReset (another c v) ≡ true → isReset c ≡ true
 another-reset c Clear h = h
 another-reset c (Given r) h =
-    absurd (true≢false (sym h ∙ either (λ (d : Deed). doesA isReset d ≡ false) (eqb (numberOf r) 10) (aborts c) (refuses c) refl refl))
+    absurd (true≢false (sym h ∙ either (λ (d : Deed). doesA isReset d ≡ false) (isSame r Aborted) (wasAborted c) (wasRefused c) refl refl))
 
 begins-no-reset : (host : ℕ) (cdb : List ℕ) (v : Verdict) → doesA isReset (beginning host cdb v) ≡ false
 begins-no-reset host cdb Clear = refl
@@ -284,15 +342,10 @@ answers-no-reset host reply (progressed (Ended report)) = refl
 answers-no-reset host reply (progressed (NotTaken r)) = refl
 
 pub reset-call : (c : Call) (said : Said) → doesA isReset (deedOf c said) ≡ true → isReset c ≡ true
-reset-call (setFeatures q) said = another-reset (setFeatures q) (verdictIn said)
-reset-call tick said = another-reset tick (verdictIn said)
-reset-call (read host) said = another-reset (read host) (verdictIn said)
-reset-call (write host) said = another-reset (write host) (verdictIn said)
-reset-call powerOn said = another-reset powerOn (verdictIn said)
-reset-call hardReset said = another-reset hardReset (verdictIn said)
-reset-call softReset said = another-reset softReset (verdictIn said)
-reset-call (startStop host cdb) said = λ h. sym (begins-no-reset host cdb (verdictIn said)) ∙ h
-reset-call (next host) said = λ h. sym (sends-no-reset host said) ∙ h
-reset-call (answer host reply) said = λ h. sym (answers-no-reset host reply said) ∙ h
-reset-call (requestSense host buffer) said = another-reset (requestSense host buffer) (verdictIn said)
-reset-call (logPage buffer) said = another-reset (logPage buffer) (verdictIn said)
+reset-call c said = on (turn c)
+  where
+    on : {c : Call} → Turn c → doesA isReset (deedOf c said) ≡ true → isReset c ≡ true
+    on (starts host cdb) h = sym (begins-no-reset host cdb (verdictIn said)) ∙ h
+    on (asks host) h = sym (sends-no-reset host said) ∙ h
+    on (answers host reply) h = sym (answers-no-reset host reply said) ∙ h
+    on (apart c other) h = another-reset c (verdictIn said) (rw (other said) at h)

@@ -8,27 +8,26 @@ use Prim.Native.Nat.{ℕ}
 use Rattle.rows.proofs.Places.{and-left, and-right}
 use Rattle.unit.specs.Units.{wellFormed}
 use Rattle.unit.specs.declared.Unit.{Unit}
-use Rattle.bridge.specs.Operations.{oneMore, flushesOf}
+use Rattle.operations.specs.Operations.{oneMore, flushesOf}
 use Rattle.calls.specs.Calls.{Call, outcome, step, run, history}
-use Rattle.calls.specs.Kinds.{isReset}
-use Rattle.runs.specs.Deeds.{Deed, refuses, deeds, doesA}
+use Rattle.calls.specs.Described.{isReset}
+use Rattle.runs.specs.Deeds.{Deed, wasRefused, deeds, doesA}
 use Rattle.runs.specs.Past.{pastOf}
 use Rattle.runs.specs.Serial.{inPlaceOf, serialAfter, serial, nothingWaits, resetsAtRest, compared, Demand3, gather, refusedIn, otherIn, begunIn, beginnerIn, enderIn, Serialises, SerialRun, realPlace, serialPlace}
-use Rattle.runs.proofs.Deeds.{Cases, deedAt, by-deed, reset-call}
+use Rattle.runs.proofs.Deeds.{deedAt, by-deed, reset-call}
 use Rattle.runs.proofs.Known.{Known, known-kept, known-at-first}
 use Rattle.runs.proofs.RunsTo.{RunsTo, runs-nothing, runs-append, gather-append}
 use Rattle.runs.proofs.Same.{Same, mark-at-rest, Stands, Follows, aborts-on, epc-on, ticks-on, reads-on, writes-on, powers-on, resets-hard, resets-soft, tells-on, logs-on, nothing}
-use Rattle.runs.proofs.Pending.{pending, Balance, balanced}
+use Rattle.runs.proofs.Pending.{pending, balanced}
 use Rattle.runs.proofs.Slots.{nothing-waits, Quiet}
 use Rattle.runs.proofs.Operations.{begins-on, asks-on, flushes-on, flush-fails-on, last-on}
 
 -- ---- one call
 
 module _ (past : List Deed) (u v : Unit) (known : Known past u) (same : Same u v) where
-  stands : Cases (Stands past u v (known .0) same) u
-  stands = record {
-    refused = λ c r.
-        nothing past u v (known .0) same (refuses c) u refl (record { none-refused = refl; same-others = refl; beginner = refl; begun = λ k. refl; place = refl; over = refl }) same;
+  stands : (c : Call) → Stands past u v (known .0) same (deedAt u c) (step u c)
+  stands = by-deed (Stands past u v (known .0) same) u (record {
+    refused = λ c r. nothing past u v (known .0) same (wasRefused c) u (refl, refl, refl, refl, λ k. refl) same;
     aborted = aborts-on past u v (known .0) same;
     begun = λ host cdb t clear wants. begins-on past u v known same host cdb t clear;
     asked = λ host q clear. asks-on past u v known same host q;
@@ -36,6 +35,7 @@ module _ (past : List Deed) (u v : Unit) (known : Known past u) (same : Same u v
     flush-failed = λ host q taken f. flush-fails-on past u v known same host q taken f (oneMore (flushesOf (q .stage))) _;
     last-succeeded = λ host reply q taken f g. last-on past u v known same host q taken f reply true g _;
     last-failed = λ host reply q taken f g. last-on past u v known same host q taken f reply false g _;
+  }) (record {
     epc = epc-on past u v (known .0) same;
     ticks = ticks-on past u v (known .0) same;
     reads = reads-on past u v (known .0) same;
@@ -45,7 +45,7 @@ module _ (past : List Deed) (u v : Unit) (known : Known past u) (same : Same u v
     resets-soft = resets-soft past u v (known .0) same;
     tells = tells-on past u v (known .0) same;
     logs = logs-on past u v (known .0) same;
-  }
+  })
 
 -- ---- lists
 
@@ -90,7 +90,7 @@ beside-next past u v c cs reset known f b =
       in-place = gather-append serialPlace ds es ∙ rw (f .stand .place, b .in-place);
       over = gather-append enderIn ds es ∙ rw (f .stand .over, b .over);
       balance = λ k.
-          chained (pending k past (u .slots)) (begunIn k (deedAt u c)) _ _ _ _ _ _ (by-deed (Balance past u known k) u (balanced past u known k) c reset) (b .balance k) (f .stand .begun k)
+          chained (pending k past (u .slots)) (begunIn k (deedAt u c)) _ _ _ _ _ _ (balanced past u known k c reset) (b .balance k) (f .stand .begun k)
           ∙ ap (λ (l : List (List ℕ)). l ++ pending k (reverseAux (deeds (history u (c ∷ cs))) past) (run u (c ∷ cs) .slots))
           (sym (gather-append (begunIn k) ds es));
     }
@@ -110,7 +110,7 @@ beside past u v known same [] h = record {
 }
 beside past u v known same (c ∷ cs) h =
     let reset = resets-rest u c (and-left (not (isReset c) || nothingWaits u) _ h) in
-    let f = by-deed (Stands past u v (known .0) same) u (stands past u v known same) c reset in
+    let f = stands past u v known same c reset in
     beside-next past u v c cs reset known f
     (beside (deedAt u c ∷ past) (step u c) (f .v') (known-kept past u c known) (f .same) cs (and-right (not (isReset c) || nothingWaits u) _ h))
 

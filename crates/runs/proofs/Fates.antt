@@ -8,40 +8,43 @@ use native.Mathlib.Omega.{arith}
 use lib.Dec.{eqb}
 use lib.ListN.{set}
 use borrow.Author.Tests.{eqb-true}
-use Rattle.epc.proofs.Effects.{either}
-use Rattle.unit.specs.Units.{emptySlot, slotOf, isWaiting, isOut, wellFormed, withSlot, rested}
-use Rattle.unit.specs.Refusals.{lowest}
-use Rattle.unit.specs.declared.Target.{Target}
-use Rattle.unit.specs.declared.Request.{Request}
+use Rattle.rows.proofs.Choices.{either}
+use Rattle.unit.specs.Units.{emptySlot, slotOf, isWaiting, wellFormed, withSlot, rested}
+use Rattle.refusals.specs.Refusals.{lowest}
+use Rattle.requests.specs.declared.Target.{Target}
+use Rattle.requests.specs.declared.Request.{Request}
 use Rattle.unit.specs.declared.Slot.{Slot}
 use Rattle.unit.specs.declared.Slot.the-variants.{Empty, Waiting}
-use Rattle.unit.specs.declared.Failure.the-variants.{CommandSequence}
-use Rattle.unit.specs.declared.Verdict.{Verdict}
-use Rattle.unit.specs.declared.Verdict.the-variants.{Clear, Given}
+use Rattle.refusals.specs.declared.Verdict.{Verdict}
+use Rattle.refusals.specs.declared.Verdict.the-variants.{Clear, Given}
 use Rattle.unit.specs.declared.Unit.{Unit}
-use Rattle.bridge.specs.Cdb.{immed, wanted, requestFor}
-use Rattle.bridge.specs.Operations.{oneMore, flushesOf, flushCounted, reportGood, reportFailed, taken, flushedWell, failed}
-use Rattle.bridge.specs.Bridge.{acceptedAs, startStopRows, answerRows}
-use Rattle.bridge.specs.declared.Wanted.the-variants.{Wants}
+use Rattle.cdb.specs.Cdb.{immed, wanted, requestFor}
+use Rattle.operations.specs.Operations.{failureOf, oneMore, flushesOf, flushCounted, reportGood, reportFailed, acceptedAs}
+use Rattle.exchange.specs.Answered.{flushedWell, failed}
+use Rattle.bridge.specs.Bridge.{startStopRows}
+use Rattle.exchange.specs.Exchange.{answerRows}
+use Rattle.cdb.specs.declared.Wanted.the-variants.{Wants}
 use Rattle.bridge.specs.declared.StartStopped.{StartStopped}
-use Rattle.bridge.specs.declared.Reply.{Reply}
-use Rattle.bridge.specs.declared.Reply.the-variants.{Good, Bad}
-use Rattle.bridge.specs.declared.Report.{Report}
-use Rattle.calls.specs.Calls.{Call, tick, startStop, accepted, outcome, step, run, history}
-use Rattle.calls.proofs.Numbers.{clear-none, own-told, start-wants, start-accepted}
-use Rattle.calls.proofs.Hosts.{own-slot}
+use Rattle.requests.specs.declared.Reply.{Reply}
+use Rattle.requests.specs.declared.Reply.the-variants.{Good, Bad}
+use Rattle.operations.specs.declared.Report.{Report}
+use Rattle.calls.specs.Calls.{Call, startStop, accepted, outcome, step, run, history}
+use Rattle.refusals.proofs.Lowest.{not-applies}
+use Rattle.calls.proofs.Numbers.{own-told, start-wants, start-accepted}
+use Rattle.unit.proofs.Hosts.{own-slot}
 use Rattle.calls.proofs.WellFormed.{well-formed-kept}
-use Rattle.calls.specs.Kinds.{isReset}
-use Rattle.runs.specs.Deeds.{Deed, begins, goesOn, ends, does, refuses, beginning, deeds, doesA}
+use Rattle.calls.specs.Described.{isReset}
+use Rattle.runs.specs.Deeds.{Deed, begins, goesOn, ends, does, wasRefused, beginning, deeds, doesA}
 use Rattle.runs.specs.Reports.{endsFor, beginsFor, endReports, stillOpen, fates, WaitsAs, OneFate}
 use Rattle.runs.proofs.Slots.{waiting-same, empty-waits, inside, slot-after, none-waits}
-use Rattle.runs.proofs.Deeds.{Taken, deedAt, by-deed}
+use Rattle.runs.proofs.Deeds.{Taken, deedAt, by-deed, Leaves, sweeps, marks, passes, all-others}
+use Rattle.refusals.specs.declared.Refusal.the-variants.{BadHost, OwnWaiting}
 
 -- ---- what a call is to host k's operation
 
 -- The deed is (or is not) a START STOP UNIT of this host accepted, an end report of this host, a reset.
-abbrev Told : ℕ → Deed → Bool → Bool → Bool → Type 0
-Told k d begun ended reset = (beginsFor k d ≡ begun) × (endsFor k d ≡ ended) × (doesA isReset d ≡ reset)
+abbrev Means : ℕ → Deed → Bool → Bool → Bool → Type 0
+Means k d begun ended reset = (beginsFor k d ≡ begun) × (endsFor k d ≡ ended) × (doesA isReset d ≡ reset)
 
 not-waiting : (s : Slot) → isWaiting s ≡ false → s ≡ Empty
 not-waiting Empty e = refl
@@ -51,37 +54,37 @@ module _ (k : ℕ) (cdb : List ℕ) where
   -- The deed, with the host's slot before the call and after it. The CDB is the one that a waiting operation was accepted with.
   data Fares (before : Slot) (d : Deed) (after : Slot) : Type 0 where
     -- what waits goes on waiting, and what is empty stays so
-    onward : Told k d false false false → (WaitsAs cdb before → WaitsAs cdb after) → (before ≡ Empty → after ≡ Empty) → Fares before d after
+    onward : Means k d false false false → (WaitsAs cdb before → WaitsAs cdb after) → (before ≡ Empty → after ≡ Empty) → Fares before d after
     -- an operation begins, and none did wait
-    begun : Told k d true false false → before ≡ Empty → Fares before d after
+    begun : Means k d true false false → before ≡ Empty → Fares before d after
     -- an end report comes, and is that of a waiting operation
-    ended : Told k d false true false → (q : Request) → before ≡ Waiting q → after ≡ Empty → Fares before d after
+    ended : Means k d false true false → (q : Request) → before ≡ Waiting q → after ≡ Empty → Fares before d after
     -- a reset leaves nothing
-    swept : Told k d false false true → after ≡ Empty → Fares before d after
+    cleared : Means k d false false true → after ≡ Empty → Fares before d after
 
   module _ (u : Unit) (fine : wellFormed u ≡ true) where
     abbrev Fared : Deed → Unit → Type 0
     Fared d v = Fares (slotOf (u .slots) k) d (slotOf (v .slots) k)
 
-    still : (d : Deed) → Told k d false false false → Fares (slotOf (u .slots) k) d (slotOf (u .slots) k)
-    still d told = onward told (λ w. w) (λ e. e)
+    still : (d : Deed) → Means k d false false false → Fares (slotOf (u .slots) k) d (slotOf (u .slots) k)
+    still d means = onward means (λ w. w) (λ e. e)
 
     begun-fares : (host : ℕ) (given : List ℕ) (t : Target) → lowest (startStopRows u host given) ≡ Clear
         → Fared (begins host given) (withSlot host (Waiting (requestFor t given)) (rested u))
     begun-fares host given t clear =
-        rw (slot-after (u .slots) host k (Waiting (requestFor t given)) (inside u host fine (clear-none (startStopRows u host given) clear 1)))
+        rw (slot-after (u .slots) host k (Waiting (requestFor t given)) (inside u host fine (not-applies (startStopRows u host given) BadHost clear)))
         (on (eqb host k) refl)
       where
         on : (b : Bool) → eqb host k ≡ b
             → Fares (slotOf (u .slots) k) (begins host given) (cond b (Waiting (requestFor t given)) (slotOf (u .slots) k))
         on true e =
             begun (e, refl, refl)
-            (rw (← eqb-true host k e) (not-waiting (slotOf (u .slots) host) (clear-none (startStopRows u host given) clear 4)))
+            (rw (← eqb-true host k e) (not-waiting (slotOf (u .slots) host) (not-applies (startStopRows u host given) OwnWaiting clear)))
         on false e = still (begins host given) (e, refl, refl)
 
     module _ (host : ℕ) (q : Request) (taken : Taken u host q) where
       after : (s : Slot) → slotOf (set (u .slots) host (record { slot = s })) k ≡ cond (eqb host k) s (slotOf (u .slots) k)
-      after s = slot-after (u .slots) host k s (inside u host fine (clear-none (answerRows u host) (taken .clear) 0))
+      after s = slot-after (u .slots) host k s (inside u host fine (not-applies (answerRows u host) BadHost (taken .clear)))
 
       own : eqb host k ≡ true → slotOf (u .slots) k ≡ Waiting q
       own e = rw (← eqb-true host k e) (taken .waiting)
@@ -107,14 +110,19 @@ module _ (k : ℕ) (cdb : List ℕ) where
           on false e = still (ends host reply report) (refl, e, refl)
 
       failed-fares : (reply : Reply) (n : ℕ)
-          → Fared (ends host reply (reportFailed (q .immed) CommandSequence n)) (failed u host q CommandSequence n .unit)
+          → Fared (ends host reply (reportFailed (q .immed) (failureOf (q .target)) n)) (failed u host q n .unit)
       failed-fares reply n =
-          let report = reportFailed (q .immed) CommandSequence n in
+          let report = reportFailed (q .immed) (failureOf (q .target)) n in
           either (Fared (ends host reply report)) (q .immed) _ _ (ended-fares reply report) (ended-fares reply report)
+
+    other-fares : (c : Call) (v : Unit) → Leaves u c v → Fared (does c) v
+    other-fares c v (sweeps power-on is slots none mark) = cleared (refl, refl, is .0) (rw slots (none-waits k))
+    other-fares c v (marks is none slots same mark) = rw slots (still (does c) (refl, refl, is .0))
+    other-fares c v (passes is slots same mark) = rw slots (still (does c) (refl, refl, is .0))
 
     fares : (c : Call) → Fared (deedAt u c) (step u c)
     fares = by-deed Fared u (record {
-      refused = λ c. still (refuses c) (refl, refl, refl);
+      refused = λ c. still (wasRefused c) (refl, refl, refl);
       aborted = λ q a. still _ (refl, refl, refl);
       begun = λ host given t clear wants. begun-fares host given t clear;
       asked = λ host q clear waits. still _ (refl, refl, refl);
@@ -122,38 +130,29 @@ module _ (k : ℕ) (cdb : List ℕ) where
       flush-failed = λ host q taken f. failed-fares host q taken Bad (oneMore (flushesOf (q .stage)));
       last-succeeded = λ host reply q taken f g. ended-fares host q taken reply (reportGood (q .immed) (flushesOf (q .stage)));
       last-failed = λ host reply q taken f g. failed-fares host q taken reply (flushesOf (q .stage));
-      epc = λ q clear. still _ (refl, refl, refl);
-      ticks = either (Fared (does tick)) (isOut (u .out)) _ _ (still _ (refl, refl, refl)) (still _ (refl, refl, refl));
-      reads = λ host clear. still _ (refl, refl, refl);
-      writes = λ host clear. still _ (refl, refl, refl);
-      powers-on = swept (refl, refl, refl) (none-waits k);
-      resets-hard = swept (refl, refl, refl) (none-waits k);
-      resets-soft = swept (refl, refl, refl) (none-waits k);
-      tells = λ host buffer clear. still _ (refl, refl, refl);
-      logs = λ buffer clear. still _ (refl, refl, refl);
-    })
+    }) (all-others Fared u (λ c v did. other-fares c v (did .leaves)))
 
   -- ---- one call, then the deeds that follow
 
   module _ {before after : Slot} {d : Deed} (ds : List Deed) where
     none-first : Fares before d after → before ≡ Empty → (after ≡ Empty → endReports k ds ≡ 0) → endReports k (d ∷ ds) ≡ 0
-    none-first (onward told waits none) empty later = rw (told .0, told .1) (later (none empty))
-    none-first (begun told none) empty later = rw (told .0)
-    none-first (ended told q waiting none) empty later = empty-waits q (sym empty ∙ waiting)
-    none-first (swept told none) empty later = rw (told .0, told .1) (later none)
+    none-first (onward means waits none) empty later = rw (means .0, means .1) (later (none empty))
+    none-first (begun means none) empty later = rw (means .0)
+    none-first (ended means q waiting none) empty later = empty-waits q (sym empty ∙ waiting)
+    none-first (cleared means none) empty later = rw (means .0, means .1) (later none)
 
     fate-first : Fares before d after → WaitsAs cdb before → (WaitsAs cdb after → fates k ds ≡ 1) → (after ≡ Empty → endReports k ds ≡ 0)
         → fates k (d ∷ ds) ≡ 1
-    fate-first (onward told waits none) w later over = rw (told .0, told .1, told .2) (later (waits w))
-    fate-first (begun told none) w later over = empty-waits (w .0) (sym none ∙ w .1)
-    fate-first (ended told q waiting none) w later over = rw (told .0, told .1, told .2, over none)
-    fate-first (swept told none) w later over = rw (told .0, told .1, told .2, over none)
+    fate-first (onward means waits none) w later over = rw (means .0, means .1, means .2) (later (waits w))
+    fate-first (begun means none) w later over = empty-waits (w .0) (sym none ∙ w .1)
+    fate-first (ended means q waiting none) w later over = rw (means .0, means .1, means .2, over none)
+    fate-first (cleared means none) w later over = rw (means .0, means .1, means .2, over none)
 
     open-first : Fares before d after → WaitsAs cdb before → stillOpen k (d ∷ ds) ≡ true → WaitsAs cdb after × (stillOpen k ds ≡ true)
-    open-first (onward told waits none) w unended = (waits w, rw (told .0, told .1, told .2) at unended)
-    open-first (begun told none) w unended = absurd (false≢true (rw (told .0) at unended))
-    open-first (ended told q waiting none) w unended = absurd (false≢true (rw (told .0, told .1) at unended))
-    open-first (swept told none) w unended = absurd (false≢true (rw (told .0, told .1, told .2) at unended))
+    open-first (onward means waits none) w unended = (waits w, rw (means .0, means .1, means .2) at unended)
+    open-first (begun means none) w unended = absurd (false≢true (rw (means .0) at unended))
+    open-first (ended means q waiting none) w unended = absurd (false≢true (rw (means .0, means .1) at unended))
+    open-first (cleared means none) w unended = absurd (false≢true (rw (means .0, means .1, means .2) at unended))
 
   -- ---- along a run
 
@@ -197,7 +196,7 @@ module _ (u : Unit) (host : ℕ) (cdb : List ℕ) (fine : wellFormed u ≡ true)
   begun-slot : slotOf (step u (startStop host cdb) .slots) host ≡ Waiting (requestFor target cdb)
   begun-slot =
       ap (λ (o : StartStopped). slotOf (o .unit .slots) host) (start-accepted u host cdb target clear wants)
-      ∙ own-slot (u .slots) host (Waiting (requestFor target cdb)) (inside u host fine (clear-none (startStopRows u host cdb) clear 1))
+      ∙ own-slot (u .slots) host (Waiting (requestFor target cdb)) (inside u host fine (not-applies (startStopRows u host cdb) BadHost clear))
 
   begun-waits : WaitsAs cdb (slotOf (step u (startStop host cdb) .slots) host)
   begun-waits = (requestFor target cdb, begun-slot, wants, refl)

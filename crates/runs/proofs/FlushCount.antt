@@ -7,15 +7,15 @@ use Prim.Native.Nat.{ℕ, suc}
 use lib.Dec.{eqb}
 use borrow.Author.Tests.{eq-eqb}
 use Rattle.unit.specs.Units.{slotOf}
-use Rattle.unit.specs.declared.Stage.{Stage}
-use Rattle.unit.specs.declared.Stage.the-variants.{Straight, Flushing}
-use Rattle.unit.specs.declared.Request.{Request}
+use Rattle.requests.specs.declared.Stage.{Stage}
+use Rattle.requests.specs.declared.Stage.the-variants.{Straight, Flushing}
+use Rattle.requests.specs.declared.Request.{Request}
 use Rattle.unit.specs.declared.Slot.the-variants.{Waiting}
 use Rattle.unit.specs.declared.Unit.{Unit}
-use Rattle.bridge.specs.Cdb.{noFlush, stageFor}
-use Rattle.bridge.specs.Operations.{dueFrom, isFlush, oneMore, flushesOf}
-use Rattle.bridge.specs.declared.Reply.{Reply}
-use Rattle.bridge.specs.declared.Report.{Report}
+use Rattle.cdb.specs.Cdb.{noFlush, stageFor}
+use Rattle.operations.specs.Operations.{dueFrom, isFlush, oneMore, flushesOf}
+use Rattle.requests.specs.declared.Reply.{Reply}
+use Rattle.operations.specs.declared.Report.{Report}
 use Rattle.calls.specs.Calls.{answer, outcome, run}
 use Rattle.runs.specs.Deeds.{Deed, ends}
 use Rattle.runs.specs.Past.{pastOf, flushSent, flushesAnswered, heldAt255}
@@ -57,8 +57,7 @@ module _ (past : List Deed) (u : Unit) (known : Known past u) where
   -- The report of an operation that is over carries the flushes answered for it, this answer counted.
   report-counts : (host : ℕ) (reply : Reply) (report : Report) → deedAt u (answer host reply) ≡ ends host reply report
       → report .flushes ≡ heldAt255 (answeredNow host)
-  report-counts = when-ended (λ host q. Prim.Unit {0}) (λ host reply report v. report .flushes ≡ heldAt255 (answeredNow host)) u (record {
-    asked = λ host q waits. tt;
+  report-counts = when-ended (λ host reply report v. report .flushes ≡ heldAt255 (answeredNow host)) u (record {
     flush-failed = flush-counts;
     last-succeeded = λ host reply q taken f g. last-counts host q taken f;
     last-failed = λ host reply q taken f g. last-counts host q taken f;

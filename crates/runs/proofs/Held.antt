@@ -9,32 +9,36 @@ use lib.ListN.{set}
 use borrow.Author.Tests.{eqb-false, not-true}
 use Rattle.rows.specs.Rows.{everyAt}
 use Rattle.rows.proofs.Places.{and-left, and-right}
-use Rattle.epc.proofs.Effects.{either}
-use Rattle.pages.specs.Senses.{senseBytes}
-use Rattle.unit.specs.Units.{heldOf, isOut, wellFormed}
-use Rattle.unit.specs.Refusals.{numberOf}
-use Rattle.unit.specs.Calls.{senseRows, failureSense, toldBytes}
-use Rattle.unit.specs.declared.Request.{Request}
+use Rattle.senses.specs.Senses.{senseBytes}
+use Rattle.unit.specs.Units.{heldOf, wellFormed}
+use Rattle.requests.specs.Requests.{failureSense}
+use Rattle.refusals.specs.Refusals.{isSame}
+use Rattle.readouts.specs.Readouts.{senseRows, toldBytes}
+use Rattle.requests.specs.declared.Request.{Request}
 use Rattle.unit.specs.declared.Held.{Held}
 use Rattle.unit.specs.declared.Held.the-variants.{Nothing, Holds}
 use Rattle.unit.specs.declared.HostHeld.{HostHeld}
-use Rattle.unit.specs.declared.Failure.{Failure}
-use Rattle.unit.specs.declared.Failure.the-variants.{CommandSequence}
-use Rattle.unit.specs.declared.Verdict.{Verdict}
-use Rattle.unit.specs.declared.Verdict.the-variants.{Clear, Given}
+use Rattle.requests.specs.declared.Failure.{Failure}
+use Rattle.refusals.specs.declared.Verdict.{Verdict}
+use Rattle.refusals.specs.declared.Verdict.the-variants.{Clear, Given}
 use Rattle.unit.specs.declared.Unit.{Unit}
-use Rattle.bridge.specs.Operations.{oneMore, flushesOf, reportFailed, taken, failed}
-use Rattle.bridge.specs.declared.Reply.{Reply}
-use Rattle.bridge.specs.declared.Reply.the-variants.{Bad}
-use Rattle.calls.specs.Calls.{Call, tick, startStop, answer, requestSense, outcome, step, run, history}
-use Rattle.calls.proofs.Numbers.{clear-none, own-told, acceptance-does}
-use Rattle.calls.proofs.Hosts.{own-held, other-held}
+use Rattle.cdb.specs.Cdb.{wanted}
+use Rattle.operations.specs.Operations.{failureOf, oneMore, flushesOf, reportFailed}
+use Rattle.exchange.specs.Answered.{failed}
+use Rattle.requests.specs.declared.Reply.{Reply}
+use Rattle.requests.specs.declared.Reply.the-variants.{Bad}
+use Rattle.calls.specs.Calls.{Call, startStop, answer, requestSense, outcome, step, run, history}
+use Rattle.calls.specs.Described.{isReset}
+use Rattle.refusals.proofs.Lowest.{not-applies}
+use Rattle.calls.proofs.Numbers.{own-told, acceptance-does}
+use Rattle.unit.proofs.Hosts.{own-held, other-held}
 use Rattle.calls.proofs.WellFormed.{well-formed-kept, run-well-formed}
-use Rattle.runs.specs.Deeds.{Deed, ends, does, aborts, refuses, another, deeds}
-use Rattle.runs.specs.Reports.{keepsHeld, HeldTold, FailureTold}
-use Rattle.runs.proofs.Deeds.{deedAt, by-deed}
+use Rattle.runs.specs.Deeds.{Deed, ends, does, wasAborted, wasRefused, another, deeds}
+use Rattle.runs.specs.Reports.{failureFor, keepsHeld, HeldTold, FailureTold}
+use Rattle.runs.proofs.Deeds.{deedAt, by-deed, all-others}
 use Rattle.runs.proofs.HeldSenses.{held-inside, heldAfter, failed-held}
 use Rattle.runs.proofs.Reports.{closes, end-reported}
+use Rattle.refusals.specs.declared.Refusal.the-variants.{BadHost, Aborted}
 
 -- ---- the held sense stays
 
@@ -48,12 +52,12 @@ module _ (k : ℕ) where
 
     -- A failure that is held is another host's.
     failed-kept : (host : ℕ) (reply : Reply) (q : Request) (n : ℕ)
-        → Kept (ends host reply (reportFailed (q .immed) CommandSequence n)) (failed u host q CommandSequence n .unit)
+        → Kept (ends host reply (reportFailed (q .immed) (failureOf (q .target)) n)) (failed u host q n .unit)
     failed-kept host reply q n h = ap (λ (l : List HostHeld). heldOf l k) (failed-held u host q n) ∙ on (q .immed) h
       where
-        on : (b : Bool) → keepsHeld k (ends host reply (reportFailed b CommandSequence n)) ≡ true
-            → heldOf (heldAfter (u .held) host b) k ≡ heldOf (u .held) k
-        on true h = spared host (Holds CommandSequence) (apart (eqb host k) h)
+        on : (b : Bool) → keepsHeld k (ends host reply (reportFailed b (failureOf (q .target)) n)) ≡ true
+            → heldOf (heldAfter (u .held) host b (failureOf (q .target))) k ≡ heldOf (u .held) k
+        on true h = spared host (Holds (failureOf (q .target))) (apart (eqb host k) h)
           where
             apart : (b : Bool) → (not (b && true) && true && true) ≡ true → b ≡ false
             apart true h = absurd (false≢true h)
@@ -70,16 +74,8 @@ module _ (k : ℕ) where
       flush-failed = λ host q taken f. failed-kept host Bad q (oneMore (flushesOf (q .stage)));
       last-succeeded = λ host reply q taken f g h. refl;
       last-failed = λ host reply q taken f g. failed-kept host reply q (flushesOf (q .stage));
-      epc = λ q clear h. refl;
-      ticks = either (Kept (does tick)) (isOut (u .out)) _ _ (λ h. refl) (λ h. refl);
-      reads = λ host clear h. refl;
-      writes = λ host clear h. refl;
-      powers-on = λ h. absurd (false≢true h);
-      resets-hard = λ h. absurd (false≢true h);
-      resets-soft = λ h. absurd (false≢true h);
-      tells = λ host buffer clear h. spared host Nothing (not-true (eqb host k) h);
-      logs = λ buffer clear h. refl;
-    })
+    }) (all-others Kept u (λ c v did h.
+        did .held k (not-true (isReset c) (and-left (not (isReset c)) _ h)) (not-true _ (and-right (not (isReset c)) _ h))))
 
   run-kept : (u : Unit) (cs : List Call) (at : ℕ) → everyAt (λ i d. keepsHeld k d) at (deeds (history u cs)) ≡ true
       → heldOf (run u cs .held) k ≡ heldOf (u .held) k
@@ -91,9 +87,9 @@ module _ (k : ℕ) where
 
 does-clear : (c : Call) (v : Verdict) → another c v ≡ does c → v ≡ Clear
 does-clear c Clear e = refl
-does-clear c (Given r) e = on (eqb (numberOf r) 10) e
+does-clear c (Given r) e = on (isSame r Aborted) e
   where
-    on : (b : Bool) → cond b (aborts c) (refuses c) ≡ does c → Given r ≡ Clear
+    on : (b : Bool) → cond b (wasAborted c) (wasRefused c) ≡ does c → Given r ≡ Clear
     on true e = let no : _≡_ {A = ℕ} 0 1 = cc in absurd (omega arith)
     on false e = let no : _≡_ {A = ℕ} 0 1 = cc in absurd (omega arith)
 
@@ -106,7 +102,7 @@ sense-told w host buffer f fine holds e =
     let c = requestSense host buffer in
     let told = does-clear c _ e in
     let did = acceptance-does w c told in
-    let below = held-inside w host fine (clear-none (senseRows w host buffer) (sym (own-told w c) ∙ told) 1) in (
+    let below = held-inside w host fine (not-applies (senseRows w host buffer) BadHost (sym (own-told w c) ∙ told)) in (
       did .1 ∙ ap (toldBytes (w .drive .power)) holds,
       ap (λ (v : Unit). heldOf (v .held) host) (did .0) ∙ own-held (w .held) host Nothing below,
     )
@@ -125,5 +121,5 @@ pub failure-told : FailureTold outcome
 failure-told u host cdb cs reply report later buffer fine accepts immediate bad unended over keeps told =
     let says = end-reported u host cdb cs reply report fine accepts unended over in
     let v = step u (startStop host cdb) in
-    held-told (run v cs) host reply report (failureSense CommandSequence) later buffer
+    held-told (run v cs) host reply report (failureSense (failureFor (wanted cdb))) later buffer
     (run-well-formed v cs (well-formed-kept u (startStop host cdb) fine)) over (says .status ∙ rw immediate) (says .sense ∙ rw bad) keeps told .0

@@ -1,14 +1,14 @@
 -- The idle count starts again with each of these calls: each effect goes through the one restart.
-use mathlib.Core.Path.{_≡_, refl, ap}
+use mathlib.Core.Path.{_≡_, refl}
 use mathlib.Core.Bool.{true, false≢true}
-use Rattle.drive.specs.declared.Tenths.{Tenths}
-use Rattle.drive.proofs.Used.{used-leaves, powered-on-leaves}
-use Rattle.epc.proofs.Effects.{either, idle-after}
+use borrow.Author.Tests.{not-true}
+use Rattle.rows.proofs.Choices.{either}
 use Rattle.unit.specs.declared.Unit.{Unit}
 use Rattle.calls.specs.Calls.{outcome}
+use Rattle.calls.specs.Described.{isTickOrLog}
 use Rattle.runs.specs.Deeds.{Deed}
 use Rattle.runs.specs.Idle.{restartsIdle, IdleRestarts}
-use Rattle.runs.proofs.Deeds.{by-deed}
+use Rattle.runs.proofs.Deeds.{by-deed, all-others}
 
 abbrev Restarts : Deed → Unit → Type 0
 Restarts d v = restartsIdle d ≡ true → v .drive .idle .0 ≡ 0
@@ -24,13 +24,4 @@ idle-restarts u = by-deed Restarts u (record {
   flush-failed = λ host q taken f h. either (λ (v : Unit). v .drive .idle .0 ≡ 0) (q .immed) _ _ refl refl;
   last-succeeded = λ host reply q taken f g h. refl;
   last-failed = λ host reply q taken f g h. either (λ (v : Unit). v .drive .idle .0 ≡ 0) (q .immed) _ _ refl refl;
-  epc = λ q clear h. idle-after q (u .drive);
-  ticks = λ h. absurd (false≢true h);
-  reads = λ host clear h. ap (λ (t : Tenths). t .0) (used-leaves (u .drive) .2);
-  writes = λ host clear h. ap (λ (t : Tenths). t .0) (used-leaves (u .drive) .2);
-  powers-on = λ h. ap (λ (t : Tenths). t .0) (powered-on-leaves (u .drive) .2);
-  resets-hard = λ h. refl;
-  resets-soft = λ h. refl;
-  tells = λ host buffer clear h. refl;
-  logs = λ buffer clear h. absurd (false≢true h);
-})
+}) (all-others Restarts u (λ c v did h. did .idle (not-true (isTickOrLog c) h)))

@@ -8,42 +8,44 @@ use native.Mathlib.Omega.{arith}
 use lib.Dec.{eqb, ltb}
 use lib.ListN.{length, set, replicate}
 use borrow.Author.Tests.{ltb-true, ltb-false, le-ltb, eq-eqb, eqb-true, not-false}
-use Rattle.epc.proofs.Effects.{either}
-use Rattle.unit.specs.Units.{emptySlot, slotOf, isOut, wellFormed, withSlot, rested}
-use Rattle.unit.specs.Refusals.{lowest}
-use Rattle.unit.specs.Calls.{mediumRows}
-use Rattle.unit.specs.declared.Target.{Target}
-use Rattle.unit.specs.declared.Target.the-variants.{Stop, Start, GoTo}
-use Rattle.unit.specs.declared.Stage.{Stage}
-use Rattle.unit.specs.declared.Stage.the-variants.{Straight, Flushing}
-use Rattle.unit.specs.declared.Request.{Request}
+use Rattle.rows.proofs.Choices.{either}
+use Rattle.unit.specs.Units.{emptySlot, slotOf, wellFormed, withSlot, rested}
+use Rattle.refusals.specs.Refusals.{lowest}
+use Rattle.requests.specs.declared.Target.{Target}
+use Rattle.requests.specs.declared.Target.the-variants.{Stop, Start, GoTo}
+use Rattle.requests.specs.declared.Stage.{Stage}
+use Rattle.requests.specs.declared.Stage.the-variants.{Straight, Flushing}
+use Rattle.requests.specs.declared.Request.{Request}
 use Rattle.unit.specs.declared.Slot.{Slot}
 use Rattle.unit.specs.declared.Slot.the-variants.{Empty, Waiting}
 use Rattle.unit.specs.declared.HostSlot.{HostSlot}
 use Rattle.unit.specs.declared.Out.{Out}
 use Rattle.unit.specs.declared.Out.the-variants.{NoneOut, OutFor}
-use Rattle.unit.specs.declared.Failure.the-variants.{CommandSequence}
-use Rattle.unit.specs.declared.Verdict.the-variants.{Clear}
+use Rattle.refusals.specs.declared.Verdict.the-variants.{Clear}
 use Rattle.unit.specs.declared.Unit.{Unit}
-use Rattle.bridge.specs.Cdb.{byte, immed, noFlush, reservedOne, wanted, stageFor, requestFor}
-use Rattle.bridge.specs.Operations.{registersOf, dueAt, dueFrom, isFlush, oneMore, flushesOf, flushCounted, flushedWell, failed, reportGood, reportFailed}
-use Rattle.bridge.specs.Bridge.{startStopRows, nextEffect, answerRows}
-use Rattle.bridge.specs.declared.Wanted.the-variants.{Wants}
-use Rattle.bridge.specs.declared.Due.{Due}
-use Rattle.bridge.specs.declared.Due.the-variants.{Flush, StandbyImmediate, ReadVerify, EpcGoTo}
-use Rattle.bridge.specs.declared.Reply.{Reply}
-use Rattle.bridge.specs.declared.Reply.the-variants.{Good, Bad}
-use Rattle.bridge.specs.declared.Report.{Report}
-use Rattle.calls.specs.Calls.{Call, tick, powerOn, hardReset, softReset, step, run, history}
-use Rattle.calls.proofs.Numbers.{clear-none}
-use Rattle.calls.proofs.Requests.{listed-unreserved}
+use Rattle.cdb.specs.Cdb.{byte, immed, noFlush, reservedInCdb, wanted, stageFor, requestFor}
+use Rattle.operations.specs.Operations.{failureOf, registersOf, dueAt, dueFrom, isFlush, oneMore, flushesOf, flushCounted, reportGood, reportFailed}
+use Rattle.exchange.specs.Answered.{flushedWell, failed}
+use Rattle.bridge.specs.Bridge.{startStopRows}
+use Rattle.exchange.specs.Exchange.{nextEffect, answerRows}
+use Rattle.cdb.specs.declared.Wanted.the-variants.{Wants}
+use Rattle.operations.specs.declared.Due.{Due}
+use Rattle.operations.specs.declared.Due.the-variants.{Flush, StandbyImmediate, ReadVerify, EpcGoTo}
+use Rattle.requests.specs.declared.Reply.{Reply}
+use Rattle.requests.specs.declared.Reply.the-variants.{Good, Bad}
+use Rattle.operations.specs.declared.Report.{Report}
+use Rattle.calls.specs.Calls.{Call, step, run, history}
+use Rattle.refusals.proofs.Lowest.{not-applies}
+use Rattle.cdb.proofs.Requests.{listed-unreserved}
 use Rattle.calls.proofs.WellFormed.{well-formed-kept}
 use Rattle.calls.proofs.Progress.{last-no-flush}
-use Rattle.runs.specs.Deeds.{Deed, begins, sends, goesOn, ends, does, deeds}
-use Rattle.runs.specs.Past.{pastOf, cdbOf, flushSent, replies, flushesAnswered, heldAt255}
+use Rattle.runs.specs.Deeds.{Deed, begins, handsOut, goesOn, ends, does, deeds}
+use Rattle.runs.specs.Past.{pastOf, cdbOf, flushSent, answersGot, flushesAnswered, heldAt255}
 use Rattle.runs.specs.Serial.{nothingWaits}
+use Rattle.runs.specs.Safe.{flushing}
 use Rattle.runs.proofs.Slots.{Quiet, waiting-same, empty-waits, out-same, taken-out, none-out-for, inside, slot-after, none-waits, nothing-waits}
-use Rattle.runs.proofs.Deeds.{Taken, Cases, deedAt, by-deed}
+use Rattle.runs.proofs.Deeds.{Taken, deedAt, by-deed, Leaves, sweeps, marks, passes, all-others}
+use Rattle.refusals.specs.declared.Refusal.the-variants.{BadField, BadHost, BadLength, BadOpcode, CommandOut, HasNone}
 
 -- ---- a fact of the past and of the record, along a run
 
@@ -68,24 +70,24 @@ Reached (Flushing m) now n answers = (now ≡ Flushing (heldAt255 n)) × (answer
 pub record Noted (cdb : List ℕ) (n : ℕ) (answers : List Reply) (q : Request) : Type 0 where
   pub six : length cdb ≡ 6
   pub opcode : byte 0 cdb ≡ 0x1B
-  pub unreserved : reservedOne cdb ≡ false
+  pub unreserved : reservedInCdb cdb ≡ false
   pub wants : wanted cdb ≡ Wants (q .target)
   pub immediate : immed cdb ≡ q .immed
   pub reached : Reached (stageFor (q .target) (noFlush cdb)) (q .stage) n answers
 
 abbrev pub NotedBy : List Deed → ℕ → Request → Type 0
-NotedBy past host q = Noted (cdbOf host past) (flushesAnswered host past) (replies host past) q
+NotedBy past host q = Noted (cdbOf host past) (flushesAnswered host past) (answersGot host past) q
 
 abbrev pub Operations : List Deed → List HostSlot → Type 0
 Operations past slots = (host : ℕ) (q : Request) → slotOf slots host ≡ Waiting q → NotedBy past host q
 
 -- Of a command that is out the past tells whether it is a flush.
-abbrev pub CommandOut : List Deed → List HostSlot → Bool → Out → Type 0
-CommandOut past slots unsaved out = (host : ℕ) (q : Request) → out ≡ OutFor host → slotOf slots host ≡ Waiting q
+abbrev pub OutNoted : List Deed → List HostSlot → Bool → Out → Type 0
+OutNoted past slots unsaved out = (host : ℕ) (q : Request) → out ≡ OutFor host → slotOf slots host ≡ Waiting q
     → flushSent host past ≡ isFlush (dueFrom unsaved q)
 
 abbrev pub Known : List Deed → Unit → Type 0
-Known past u = (wellFormed u ≡ true) × Operations past (u .slots) × CommandOut past (u .slots) (u .unsaved) (u .out)
+Known past u = (wellFormed u ≡ true) × Operations past (u .slots) × OutNoted past (u .slots) (u .unsaved) (u .out)
 
 -- ---- counts and commands
 
@@ -131,20 +133,35 @@ flush-reached : (begun : Stage) (n : ℕ) (answers : List Reply) (unsaved : Bool
 flush-reached Straight n answers unsaved q r f = absurd (true≢false (sym f ∙ straight-no-flush unsaved q (r .0)))
 flush-reached (Flushing m) n answers unsaved q r f = (rw (r .0, counts-on n), refl)
 
+-- An operation begins with a flush to come exactly if it is a flushing one, and then with none answered.
+pub begins-with : (t : Target) (without : Bool) → stageFor t without ≡ cond (flushing (Wants t) without) (Flushing 0) Straight
+begins-with Stop true = refl
+begins-with Stop false = refl
+begins-with Start without = refl
+begins-with (GoTo c) true = refl
+begins-with (GoTo c) false = refl
+
+pub begins-flushing : (t : Target) (without : Bool) (m : ℕ) → stageFor t without ≡ Flushing m → flushing (Wants t) without ≡ true
+begins-flushing t without m e = on (flushing (Wants t) without) (sym (begins-with t without) ∙ e)
+  where
+    on : (b : Bool) → cond b (Flushing 0) Straight ≡ Flushing m → b ≡ true
+    on true e = refl
+    on false e = straight-flushing m e
+
 fresh-reached : (t : Target) (without : Bool) → Reached (stageFor t without) (stageFor t without) 0 []
-fresh-reached Stop true = (refl, refl, refl)
-fresh-reached Stop false = (refl, refl)
-fresh-reached Start without = (refl, refl, refl)
-fresh-reached (GoTo c) true = (refl, refl, refl)
-fresh-reached (GoTo c) false = (refl, refl)
+fresh-reached t without = rw (begins-with t without) (on (flushing (Wants t) without))
+  where
+    on : (b : Bool) → let stage = cond b (Flushing 0) Straight in Reached stage stage 0 []
+    on true = (refl, refl)
+    on false = (refl, refl, refl)
 
 -- A CDB that is accepted, as the request that it asks for.
 begun-noted : (u : Unit) (host : ℕ) (cdb : List ℕ) (t : Target) → lowest (startStopRows u host cdb) ≡ Clear → wanted cdb ≡ Wants t
     → Noted cdb 0 [] (requestFor t cdb)
 begun-noted u host cdb t clear wants = record {
-  six = eqb-true _ _ (not-false _ (clear-none (startStopRows u host cdb) clear 0));
-  opcode = eqb-true _ _ (not-false _ (clear-none (startStopRows u host cdb) clear 5));
-  unreserved = listed-unreserved (u .drive .records) cdb (not-false _ (clear-none (startStopRows u host cdb) clear 6));
+  six = eqb-true _ _ (not-false _ (not-applies (startStopRows u host cdb) BadLength clear));
+  opcode = eqb-true _ _ (not-false _ (not-applies (startStopRows u host cdb) BadOpcode clear));
+  unreserved = listed-unreserved (u .drive .records) cdb (not-false _ (not-applies (startStopRows u host cdb) BadField clear));
   wants = wants;
   immediate = refl;
   reached = fresh-reached t (noFlush cdb);
@@ -166,26 +183,26 @@ module _ (past : List Deed) (u : Unit) (known : Known past u) where
   abbrev ops : Operations past (u .slots)
   ops = known .1
 
-  abbrev out : CommandOut past (u .slots) (u .unsaved) (u .out)
+  abbrev out : OutNoted past (u .slots) (u .unsaved) (u .out)
   out = known .2
 
   abbrev Stay : Deed → Unit → Type 0
-  Stay d v = Operations (d ∷ past) (v .slots) × CommandOut (d ∷ past) (v .slots) (v .unsaved) (v .out)
+  Stay d v = Operations (d ∷ past) (v .slots) × OutNoted (d ∷ past) (v .slots) (v .unsaved) (v .out)
 
   begun-stays : (host : ℕ) (cdb : List ℕ) (t : Target) → lowest (startStopRows u host cdb) ≡ Clear → wanted cdb ≡ Wants t
       → Stay (begins host cdb) (withSlot host (Waiting (requestFor t cdb)) (rested u))
   begun-stays host cdb t clear wants = (
-    λ k q w. on k q (eqb host k) (sym (slot-after (u .slots) host k _ (inside u host (known .0) (clear-none (startStopRows u host cdb) clear 1))) ∙ w),
-    λ k q o w. none-out-for (u .out) k (clear-none (startStopRows u host cdb) clear 3) o,
+    λ k q w. on k q (eqb host k) (sym (slot-after (u .slots) host k _ (inside u host (known .0) (not-applies (startStopRows u host cdb) BadHost clear))) ∙ w),
+    λ k q o w. none-out-for (u .out) k (not-applies (startStopRows u host cdb) CommandOut clear) o,
   )
     where
       on : (k : ℕ) (q : Request) (b : Bool) → cond b (Waiting (requestFor t cdb)) (slotOf (u .slots) k) ≡ Waiting q
-          → Noted (cond b cdb (cdbOf k past)) (cond b 0 (flushesAnswered k past)) (cond b [] (replies k past)) q
+          → Noted (cond b cdb (cdbOf k past)) (cond b 0 (flushesAnswered k past)) (cond b [] (answersGot k past)) q
       on k q true w = rw (← waiting-same _ q w) (begun-noted u host cdb t clear wants)
       on k q false w = ops k q w
 
   asked-stays : (host : ℕ) (q : Request) → slotOf (u .slots) host ≡ Waiting q
-      → Stay (sends host (registersOf (dueFrom (u .unsaved) q))) (nextEffect host u)
+      → Stay (handsOut host (registersOf (dueFrom (u .unsaved) q))) (nextEffect host u)
   asked-stays host q waits = (
     ops,
     λ k p o w.
@@ -196,17 +213,17 @@ module _ (past : List Deed) (u : Unit) (known : Known past u) where
   -- An answer to the host's operation: its slot is set, and nothing is out.
   answered-stays : (d : Deed) (host : ℕ) (q : Request) (s : Slot) (unsaved : Bool) → Taken u host q
       → ((k : ℕ) (p : Request) (b : Bool) → eqb host k ≡ b → cond b s (slotOf (u .slots) k) ≡ Waiting p → NotedBy (d ∷ past) k p)
-      → Operations (d ∷ past) (set (u .slots) host (record { slot = s })) × CommandOut (d ∷ past) (set (u .slots) host (record { slot = s })) unsaved NoneOut
+      → Operations (d ∷ past) (set (u .slots) host (record { slot = s })) × OutNoted (d ∷ past) (set (u .slots) host (record { slot = s })) unsaved NoneOut
   answered-stays d host q s unsaved taken noted = (
     λ k p w.
         noted k p (eqb host k) refl
-        (sym (slot-after (u .slots) host k s (inside u host (known .0) (clear-none (answerRows u host) (taken .clear) 0))) ∙ w),
+        (sym (slot-after (u .slots) host k s (inside u host (known .0) (not-applies (answerRows u host) BadHost (taken .clear)))) ∙ w),
     λ k p o w. none-out-for NoneOut k refl o,
   )
 
   -- An answer that is taken is to the command that was due.
   pub sent-due : (host : ℕ) (q : Request) → Taken u host q → flushSent host past ≡ isFlush (dueFrom (u .unsaved) q)
-  sent-due host q taken = out host q (taken-out u host (clear-none (answerRows u host) (taken .clear) 2)) (taken .waiting)
+  sent-due host q taken = out host q (taken-out u host (not-applies (answerRows u host) HasNone (taken .clear))) (taken .waiting)
 
   flushed-stays : (host : ℕ) (q : Request) → Taken u host q → isFlush (dueFrom (u .unsaved) q) ≡ true
       → Stay (goesOn host Good) (flushedWell u host q .unit)
@@ -221,7 +238,7 @@ module _ (past : List Deed) (u : Unit) (known : Known past u) where
 
   ended-stays : (host : ℕ) (reply : Reply) (report : Report) (q : Request) (unsaved : Bool) → Taken u host q
       → Operations (ends host reply report ∷ past) (set (u .slots) host emptySlot)
-      × CommandOut (ends host reply report ∷ past) (set (u .slots) host emptySlot) unsaved NoneOut
+      × OutNoted (ends host reply report ∷ past) (set (u .slots) host emptySlot) unsaved NoneOut
   ended-stays host reply report q unsaved taken = answered-stays (ends host reply report) host q Empty unsaved taken noted
     where
       noted : (k : ℕ) (p : Request) (b : Bool) → eqb host k ≡ b → cond b Empty (slotOf (u .slots) k) ≡ Waiting p
@@ -230,18 +247,24 @@ module _ (past : List Deed) (u : Unit) (known : Known past u) where
       noted k p false e w = rw e (ops k p w)
 
   failed-stays : (host : ℕ) (reply : Reply) (q : Request) (n : ℕ) → Taken u host q
-      → Stay (ends host reply (reportFailed (q .immed) CommandSequence n)) (failed u host q CommandSequence n .unit)
+      → Stay (ends host reply (reportFailed (q .immed) (failureOf (q .target)) n)) (failed u host q n .unit)
   failed-stays host reply q n taken =
-      let report = reportFailed (q .immed) CommandSequence n in
+      let report = reportFailed (q .immed) (failureOf (q .target)) n in
       let over = ended-stays host reply report q (u .unsaved) taken in
       either (Stay (ends host reply report)) (q .immed) _ _ over over
 
   cleared : (d : Deed) (unsaved : Bool)
-      → Operations (d ∷ past) (replicate 4 emptySlot) × CommandOut (d ∷ past) (replicate 4 emptySlot) unsaved NoneOut
+      → Operations (d ∷ past) (replicate 4 emptySlot) × OutNoted (d ∷ past) (replicate 4 emptySlot) unsaved NoneOut
   cleared d unsaved = (λ k q w. empty-waits q (sym (none-waits k) ∙ w), λ k q o w. none-out-for NoneOut k refl o)
 
-  stays : Cases Stay u
-  stays = record {
+  -- A call that is no part of an operation.
+  other-stays : (c : Call) (v : Unit) → Leaves u c v → Stay (does c) v
+  other-stays c v (sweeps power-on is slots none mark) = rw (slots, none) (cleared (does c) (v .unsaved))
+  other-stays c v (marks is none slots same mark) = rw (slots, same) (ops, λ k q o w. none-out-for (u .out) k none o)
+  other-stays c v (passes is slots same mark) = rw (slots, same, mark) (ops, out)
+
+  stays : (c : Call) → Stay (deedAt u c) (step u c)
+  stays = by-deed Stay u (record {
     refused = λ c. (ops, out);
     aborted = λ q a. (ops, out);
     begun = begun-stays;
@@ -250,21 +273,12 @@ module _ (past : List Deed) (u : Unit) (known : Known past u) where
     flush-failed = λ host q taken f. failed-stays host Bad q (oneMore (flushesOf (q .stage))) taken;
     last-succeeded = λ host reply q taken f g. ended-stays host reply (reportGood (q .immed) (flushesOf (q .stage))) q (u .unsaved) taken;
     last-failed = λ host reply q taken f g. failed-stays host reply q (flushesOf (q .stage)) taken;
-    epc = λ q clear. (ops, out);
-    ticks = either (Stay (does tick)) (isOut (u .out)) _ _ (ops, out) (ops, out);
-    reads = λ host clear. (ops, out);
-    writes = λ host clear. (ops, λ k q o w. none-out-for (u .out) k (clear-none (mediumRows u host) clear 2) o);
-    powers-on = cleared (does powerOn) false;
-    resets-hard = cleared (does hardReset) (u .unsaved);
-    resets-soft = cleared (does softReset) (u .unsaved);
-    tells = λ host buffer clear. (ops, out);
-    logs = λ buffer clear. (ops, out);
-  }
+  }) (all-others Stay u (λ c v did. other-stays c v (did .leaves)))
 
 -- What is known of the record stays known, whatever the call.
 pub known-kept : (past : List Deed) (u : Unit) (c : Call) → Known past u → Known (deedAt u c ∷ past) (step u c)
 known-kept past u c known =
-    let stay = by-deed (Stay past u known) u (stays past u known) c in
+    let stay = stays past u known c in
     (well-formed-kept u c (known .0), stay .0, stay .1)
 
 -- With nothing waiting there is nothing to know.

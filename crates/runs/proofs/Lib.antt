@@ -19,4 +19,5 @@ pub mod Idle
 pub mod Computed
 pub mod Afternoon
 pub mod Outside
+pub mod WrongPrograms
 pub mod WrongSteps

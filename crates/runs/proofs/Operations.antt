@@ -8,42 +8,43 @@ use Prim.Native.Nat.{ℕ, zero, suc}
 use lib.Dec.{eqb}
 use lib.ListN.{set}
 use borrow.Author.Tests.{eq-eqb}
-use Rattle.epc.specs.declared.Registers.{Registers}
+use Rattle.registers.specs.declared.Registers.{Registers}
 use Rattle.unit.specs.Units.{emptySlot, slotOf, isWaiting, withSlot, rested}
-use Rattle.unit.specs.Refusals.{lowest}
-use Rattle.unit.specs.declared.Target.{Target}
-use Rattle.unit.specs.declared.Target.the-variants.{Stop, Start, GoTo}
-use Rattle.unit.specs.declared.Stage.{Stage}
-use Rattle.unit.specs.declared.Stage.the-variants.{Straight, Flushing}
-use Rattle.unit.specs.declared.Request.{Request}
+use Rattle.refusals.specs.Refusals.{lowest}
+use Rattle.requests.specs.declared.Target.{Target}
+use Rattle.requests.specs.declared.Stage.{Stage}
+use Rattle.requests.specs.declared.Stage.the-variants.{Straight, Flushing}
+use Rattle.requests.specs.declared.Request.{Request}
 use Rattle.unit.specs.declared.Slot.the-variants.{Empty, Waiting}
 use Rattle.unit.specs.declared.HostSlot.{HostSlot}
-use Rattle.unit.specs.declared.Failure.{Failure}
-use Rattle.unit.specs.declared.Failure.the-variants.{CommandSequence}
-use Rattle.unit.specs.declared.Verdict.the-variants.{Clear}
+use Rattle.requests.specs.declared.Failure.{Failure}
+use Rattle.refusals.specs.declared.Verdict.the-variants.{Clear}
 use Rattle.unit.specs.declared.Unit.{Unit}
-use Rattle.bridge.specs.Cdb.{noFlush, isListed, stageFor, requestFor}
-use Rattle.bridge.specs.Operations.{registersOf, lastOf, dueFrom, isFlush, oneMore, flushesOf, reportGood, reportFailed, heldIf, flushCounted, flushedWell, failed, succeeded, countsAsGood, answeredFor}
-use Rattle.bridge.specs.Bridge.{startStopRows, nextEffect, answerRows}
-use Rattle.bridge.specs.declared.Reply.{Reply}
-use Rattle.bridge.specs.declared.Reply.the-variants.{Good, Bad}
-use Rattle.bridge.specs.declared.Report.{Report}
-use Rattle.bridge.specs.declared.Progress.the-variants.{Ended}
-use Rattle.bridge.specs.declared.Replied.{Replied}
-use Rattle.calls.proofs.Numbers.{clear-none, clear-when}
-use Rattle.calls.proofs.Hosts.{own-slot}
-use Rattle.calls.proofs.Requests.{request-fits, listed-when}
-use Rattle.calls.proofs.WellFormed.{unit-fine}
+use Rattle.cdb.specs.Cdb.{noFlush, isListed, stageFor, requestFor}
+use Rattle.operations.specs.Operations.{failureOf, registersOf, lastOf, dueFrom, isFlush, oneMore, flushesOf, reportGood, reportFailed, flushCounted, countsAsGood}
+use Rattle.exchange.specs.Answered.{heldIf, flushedWell, failed, succeeded, answeredFor}
+use Rattle.bridge.specs.Bridge.{startStopRows}
+use Rattle.exchange.specs.Exchange.{nextEffect, answerRows}
+use Rattle.requests.specs.declared.Reply.{Reply}
+use Rattle.requests.specs.declared.Reply.the-variants.{Good, Bad}
+use Rattle.operations.specs.declared.Report.{Report}
+use Rattle.operations.specs.declared.Progress.the-variants.{Ended}
+use Rattle.exchange.specs.declared.Replied.{Replied}
+use Rattle.refusals.proofs.Lowest.{not-applies, clear-when}
+use Rattle.unit.proofs.Hosts.{own-slot}
+use Rattle.cdb.proofs.Requests.{request-fits, listed-when}
+use Rattle.unit.proofs.WellFormed.{unit-fine}
 use Rattle.calls.proofs.Progress.{flush-answered, last-answered, last-no-flush, one-more-some}
-use Rattle.runs.specs.Deeds.{Deed, begins, sends, goesOn, ends}
-use Rattle.runs.specs.Past.{cdbOf, gets, replies, flushesAnswered, heldAt255}
+use Rattle.runs.specs.Deeds.{Deed, begins, handsOut, goesOn, ends}
+use Rattle.runs.specs.Past.{cdbOf, gets, answersGot, flushesAnswered, heldAt255}
 use Rattle.runs.specs.Serial.{whole}
 use Rattle.runs.proofs.Deeds.{Taken}
-use Rattle.runs.proofs.Known.{straight-flushing, goods, Reached, NotedBy, Known, sent-due, straight-no-flush, last-means}
+use Rattle.runs.proofs.Known.{straight-flushing, goods, Reached, NotedBy, Known, begins-with, begins-flushing, sent-due, straight-no-flush, last-means}
 use Rattle.runs.proofs.RunsTo.{RunsTo}
 use Rattle.runs.proofs.Whole.{Admitted, Ready, ready-begun, ready-flushed, flushed-due, whole-once, whole-twice}
 use Rattle.runs.proofs.Slots.{waiting-same, inside, Quiet, quiet-out}
 use Rattle.runs.proofs.Same.{Helped, SameMark, Same, StandFor, Follows, Stands, left-fine, waits-on, mark-beside}
+use Rattle.refusals.specs.declared.Refusal.the-variants.{BadHost, OwnWaiting}
 
 -- ---- both ends
 
@@ -75,10 +76,10 @@ both-held u w x y host false f e = e
 
 -- The last answer, by whether it counts as good.
 abbrev lastBy : Bool → Unit → ℕ → Request → Replied
-lastBy good u host q = cond good (succeeded u host q) (failed u host q CommandSequence (flushesOf (q .stage)))
+lastBy good u host q = cond good (succeeded u host q) (failed u host q (flushesOf (q .stage)))
 
 abbrev lastReport : Bool → Request → Report
-lastReport good q = cond good (reportGood (q .immed) (flushesOf (q .stage))) (reportFailed (q .immed) CommandSequence (flushesOf (q .stage)))
+lastReport good q = cond good (reportGood (q .immed) (flushesOf (q .stage))) (reportFailed (q .immed) (failureOf (q .target)) (flushesOf (q .stage)))
 
 last-report : (good : Bool) (u : Unit) (host : ℕ) (q : Request) → lastBy good u host q .answer ≡ Ended (lastReport good q)
 last-report true u host q = refl
@@ -89,7 +90,7 @@ last-taken : (w : Unit) (host : ℕ) (p : Request) (reply : Reply) (good : Bool)
 last-taken w host p reply good due g = last-answered w host p reply due ∙ rw g
 
 bad-flush-taken : (w : Unit) (host : ℕ) (p : Request) → p .stage ≡ Flushing 0
-    → answeredFor w host p Bad ≡ failed w host p CommandSequence (oneMore (flushesOf (p .stage)))
+    → answeredFor w host p Bad ≡ failed w host p (oneMore (flushesOf (p .stage)))
 bad-flush-taken w host p e = flush-answered w host p Bad (rw e)
 
 module _ (u v w : Unit) (host : ℕ) (q p : Request) (same : Same u v) (ready : Ready v w host q p) where
@@ -99,8 +100,8 @@ module _ (u v w : Unit) (host : ℕ) (q p : Request) (same : Same u v) (ready : 
   held : w .held ≡ u .held
   held = ready .held ∙ same .held
 
-  both-failed : (n m : ℕ) → BothEnded u w (failed u host q CommandSequence n .unit) (failed (nextEffect host w) host p CommandSequence m .unit) host
-  both-failed n m = rw (ready .immediate) (both-held u w _ _ host (q .immed) CommandSequence (record {
+  both-failed : (n m : ℕ) → BothEnded u w (failed u host q n .unit) (failed (nextEffect host w) host p m .unit) host
+  both-failed n m = rw (ready .immediate, ready .target) (both-held u w _ _ host (q .immed) (failureOf (q .target)) (record {
     records = records;
     power = refl;
     idle = refl;
@@ -147,12 +148,9 @@ some-good : (n : ℕ) → eqb (heldAt255 n) 0 ≡ false → goods n ≡ Good ∷
 some-good zero e = absurd (true≢false e)
 some-good (suc n) e = refl
 
+-- An operation that flushes begins with none answered.
 begins-at-zero : (t : Target) (without : Bool) (m : ℕ) → stageFor t without ≡ Flushing m → stageFor t without ≡ Flushing 0
-begins-at-zero Stop true m e = straight-flushing m e
-begins-at-zero Stop false m e = refl
-begins-at-zero Start without m e = straight-flushing m e
-begins-at-zero (GoTo c) true m e = straight-flushing m e
-begins-at-zero (GoTo c) false m e = refl
+begins-at-zero t without m e = begins-with t without ∙ rw (begins-flushing t without m e)
 
 module _ (past : List Deed) (u v : Unit) (known : Known past u) (same : Same u v) where
   abbrev Here : Deed → Unit → Type 0
@@ -163,27 +161,26 @@ module _ (past : List Deed) (u v : Unit) (known : Known past u) (same : Same u v
   pub begins-on : (host : ℕ) (cdb : List ℕ) (t : Target) → lowest (startStopRows u host cdb) ≡ Clear
       → Here (begins host cdb) (withSlot host (Waiting (requestFor t cdb)) (rested u))
   begins-on host cdb t clear r =
-      waits-on past u v (known .0) same (begins host cdb) (withSlot host (Waiting (requestFor t cdb)) (rested u)) refl
-      (record { none-refused = refl; same-others = refl; beginner = refl; begun = λ k. refl; place = refl; over = refl }) host (requestFor t cdb)
-      (own-slot (u .slots) host _ (inside u host (known .0) (clear-none (startStopRows u host cdb) clear 1))) refl refl refl
+      let begun = withSlot host (Waiting (requestFor t cdb)) (rested u) in
+      waits-on past u v (known .0) same (begins host cdb) begun (refl, refl, refl, refl, λ k. refl) host (requestFor t cdb)
+      (own-slot (u .slots) host _ (inside u host (known .0) (not-applies (startStopRows u host cdb) BadHost clear))) refl refl refl
       (mark-beside (u .slots) (u .unsaved) (v .unsaved) host _ other (same .unsaved))
     where
       -- the host has nothing waiting yet
       other : (h : Helped (u .slots) (u .unsaved)) → h .host ≡ host → ⊥
       other h e =
-          true≢false (sym (ap isWaiting (sym (ap (slotOf (u .slots)) e) ∙ h .waits)) ∙ clear-none (startStopRows u host cdb) clear 4)
+          true≢false (sym (ap isWaiting (sym (ap (slotOf (u .slots)) e) ∙ h .waits)) ∙ not-applies (startStopRows u host cdb) OwnWaiting clear)
 
-  pub asks-on : (host : ℕ) (q : Request) → slotOf (u .slots) host ≡ Waiting q → Here (sends host (registersOf (dueFrom (u .unsaved) q))) (nextEffect host u)
+  pub asks-on : (host : ℕ) (q : Request) → slotOf (u .slots) host ≡ Waiting q → Here (handsOut host (registersOf (dueFrom (u .unsaved) q))) (nextEffect host u)
   asks-on host q waits r =
-      waits-on past u v (known .0) same _ (nextEffect host u) refl
-      (record { none-refused = refl; same-others = refl; beginner = refl; begun = λ k. refl; place = refl; over = refl }) host q waits refl refl refl (same .unsaved)
+      waits-on past u v (known .0) same (handsOut host _) (nextEffect host u) (refl, refl, refl, refl, λ k. refl) host q waits refl refl refl (same .unsaved)
 
   -- A good flush helps: the mark is clear in the real run alone, until the operation ends.
   pub flushes-on : (host : ℕ) (q : Request) → Taken u host q → Here (goesOn host Good) (flushedWell u host q .unit)
   flushes-on host q taken r =
-      let waits = own-slot (u .slots) host (Waiting (flushCounted q)) (inside u host (known .0) (clear-none (answerRows u host) (taken .clear) 0)) in
-      waits-on past u v (known .0) same (goesOn host Good) (flushedWell u host q .unit) refl
-      (record { none-refused = refl; same-others = refl; beginner = refl; begun = λ k. refl; place = refl; over = refl }) host (flushCounted q) waits refl refl refl
+      let waits = own-slot (u .slots) host (Waiting (flushCounted q)) (inside u host (known .0) (not-applies (answerRows u host) BadHost (taken .clear))) in
+      let flushed = flushedWell u host q .unit in
+      waits-on past u v (known .0) same (goesOn host Good) flushed (refl, refl, refl, refl, λ k. refl) host (flushCounted q) waits refl refl refl
       (inr (record {
         saved = refl;
         host = host;
@@ -216,7 +213,7 @@ module _ (past : List Deed) (u v : Unit) (known : Known past u) (same : Same u v
         clear-when (startStopRows v host cdb)
         (rw (
           eq-eqb _ _ (noted .six),
-          clear-none (answerRows u host) (taken .clear) 0,
+          not-applies (answerRows u host) BadHost (taken .clear),
           same .fine,
           quiet-out v (same .fine) (same .quiet),
           same .quiet host,
@@ -230,11 +227,11 @@ module _ (past : List Deed) (u v : Unit) (known : Known past u) (same : Same u v
 
     -- What the operation has got with this answer.
     got : (reply : Reply) (report : Report) (flush : Bool) → isFlush (dueFrom (u .unsaved) q) ≡ flush
-        → replies host (ends host reply report ∷ past) ≡ gets flush reply (replies host past)
+        → answersGot host (ends host reply report ∷ past) ≡ gets flush reply (answersGot host past)
     got reply report flush f = rw (eq-eqb host host refl, sent-due past u known host q taken, f)
 
     ends-on : (reply : Reply) (report : Report) (answers : List Reply) (ds : List Deed) (w u' w' : Unit)
-        → replies host (ends host reply report ∷ past) ≡ answers → RunsTo v (whole host cdb answers) ds w'
+        → answersGot host (ends host reply report ∷ past) ≡ answers → RunsTo v (whole host cdb answers) ds w'
         → StandFor past (ends host reply report) ds → BothEnded u w u' w' host
         → SameMark (set (u .slots) host emptySlot) (u .unsaved) (w .unsaved) → Follows past v (ends host reply report) u'
     ends-on reply report answers ds w u' w' e runs stand both mark = record {
@@ -260,13 +257,27 @@ module _ (past : List Deed) (u v : Unit) (known : Known past u) (same : Same u v
         (λ h e. other h (helper-is (u .slots) (u .unsaved) h host q (taken .waiting) e)) (same .unsaved)
 
     stand-once : (reply : Reply) (report report' : Report) (r : Registers)
-        → StandFor past (ends host reply report) (begins host cdb ∷ sends host r ∷ ends host reply report' ∷ [])
-    stand-once reply report report' r = record { none-refused = refl; same-others = refl; beginner = refl; begun = λ k. append-nil _; place = refl; over = refl }
+        → StandFor past (ends host reply report) (begins host cdb ∷ handsOut host r ∷ ends host reply report' ∷ [])
+    stand-once reply report report' r = record {
+      none-refused = refl;
+      same-others = refl;
+      beginner = refl;
+      begun = λ k. append-nil _;
+      place = refl;
+      over = refl;
+    }
 
     stand-twice : (reply : Reply) (report report' : Report) (r s : Registers)
         → StandFor past (ends host reply report)
-        (begins host cdb ∷ sends host r ∷ goesOn host Good ∷ sends host s ∷ ends host reply report' ∷ [])
-    stand-twice reply report report' r s = record { none-refused = refl; same-others = refl; beginner = refl; begun = λ k. append-nil _; place = refl; over = refl }
+        (begins host cdb ∷ handsOut host r ∷ goesOn host Good ∷ handsOut host s ∷ ends host reply report' ∷ [])
+    stand-twice reply report report' r s = record {
+      none-refused = refl;
+      same-others = refl;
+      beginner = refl;
+      begun = λ k. append-nil _;
+      place = refl;
+      over = refl;
+    }
 
     -- What is waiting in the serial run at the operation's first command, and at the one after a good flush.
     abbrev begun : Unit
@@ -277,17 +288,17 @@ module _ (past : List Deed) (u v : Unit) (known : Known past u) (same : Same u v
 
     -- A bad flush: the first one in the serial run.
     pub flush-fails-on : isFlush (dueFrom (u .unsaved) q) ≡ true → (n : ℕ) (report : Report)
-        → Here (ends host Bad report) (failed u host q CommandSequence n .unit)
+        → Here (ends host Bad report) (failed u host q n .unit)
     flush-fails-on f n report r = on (first .stage) refl (noted .reached)
       where
         other : (h : Helped (u .slots) (u .unsaved)) → h .request ≡ q → ⊥
         other h is = true≢false (sym f ∙ ap (λ (x : Request). isFlush (dueFrom (u .unsaved) x)) (sym is) ∙ helper-due (u .slots) (u .unsaved) h)
 
-        on : (s : Stage) → first .stage ≡ s → Reached s (q .stage) (flushesAnswered host past) (replies host past)
-            → Follows past v (ends host Bad report) (failed u host q CommandSequence n .unit)
+        on : (s : Stage) → first .stage ≡ s → Reached s (q .stage) (flushesAnswered host past) (answersGot host past)
+            → Follows past v (ends host Bad report) (failed u host q n .unit)
         on Straight e reached = absurd (true≢false (sym f ∙ straight-no-flush (u .unsaved) q (reached .0)))
         on (Flushing m) e reached =
-            let x = failed (nextEffect host begun) host first CommandSequence (oneMore (flushesOf (first .stage))) in
+            let x = failed (nextEffect host begun) host first (oneMore (flushesOf (first .stage))) in
             ends-on Bad report (Bad ∷ []) _ begun _ (x .unit) (got Bad report true f)
             (whole-once v host cdb q admitted Bad x _
             (bad-flush-taken (nextEffect host begun) host first (begins-at-zero (q .target) (noFlush cdb) m e)) refl)
@@ -300,7 +311,7 @@ module _ (past : List Deed) (u v : Unit) (known : Known past u) (same : Same u v
         → Here (ends host reply report) (lastBy good u host q .unit)
     last-on f reply good g report r = on (first .stage) refl (noted .reached)
       where
-        on : (s : Stage) → first .stage ≡ s → Reached s (q .stage) (flushesAnswered host past) (replies host past)
+        on : (s : Stage) → first .stage ≡ s → Reached s (q .stage) (flushesAnswered host past) (answersGot host past)
             → Follows past v (ends host reply report) (lastBy good u host q .unit)
         on Straight e reached =
             let x = lastBy good (nextEffect host begun) host first in

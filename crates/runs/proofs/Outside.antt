@@ -2,18 +2,18 @@
 use mathlib.Core.Bool.{true, false}
 use mathlib.Core.Path.{_≡_, refl}
 use mathlib.Core.List.{List, [], _∷_, _++_}
-use Rattle.drive.specs.declared.Condition.the-variants.{StandbyZ}
-use Rattle.drive.specs.declared.Cause.the-variants.{Timer, Command}
-use Rattle.drive.specs.declared.Power.the-variants.{Low}
-use Rattle.bridge.specs.Operations.{registers}
-use Rattle.bridge.specs.declared.Next.the-variants.{Send}
-use Rattle.bridge.specs.declared.Reply.the-variants.{Good}
+use Rattle.conditions.specs.declared.Condition.the-variants.{StandbyZ}
+use Rattle.conditions.specs.declared.Cause.the-variants.{Timer, Command}
+use Rattle.conditions.specs.declared.Power.the-variants.{Low}
+use Rattle.registers.specs.Commands.{ataCommand}
+use Rattle.operations.specs.declared.Next.the-variants.{Send}
+use Rattle.requests.specs.declared.Reply.the-variants.{Good}
 use Rattle.calls.specs.Calls.{Call, tick, write, powerOn, hardReset, startStop, next, answer, sent, outcome, run}
-use Rattle.calls.specs.Examples.{off, on, new, fresh, epc}
+use Rattle.calls.specs.Examples.{off, on, new, fresh, epcCall}
 use Rattle.runs.specs.Past.{pastOf}
 use Rattle.runs.specs.Safe.{latestFlushed, lastGoesOut, lastAnsweredGood}
-use Rattle.runs.specs.Afternoon.{stop}
 use Rattle.runs.proofs.Computed.{computed}
+use Rattle.runs.proofs.Afternoon.{stop}
 
 -- ---- parked with a write unsaved
 
@@ -40,8 +40,8 @@ unfolding computed
 no-flush-goes-to = (refl, refl)
 
 -- A go to as an EPC subcommand.
-pub go-to-parks : (run fresh (write 1 ∷ epc 0x00 0x1 ∷ []) .drive .power ≡ Low StandbyZ Command)
-    × (run fresh (write 1 ∷ epc 0x00 0x1 ∷ []) .unsaved ≡ true)
+pub go-to-parks : (run fresh (write 1 ∷ epcCall 0x00 0x1 ∷ []) .drive .power ≡ Low StandbyZ Command)
+    × (run fresh (write 1 ∷ epcCall 0x00 0x1 ∷ []) .unsaved ≡ true)
 unfolding computed
 go-to-parks = (refl, refl)
 
@@ -71,6 +71,6 @@ pub any-flush-serves :
     outcome
     (run fresh
     (startStop 0 stop ∷ next 0 ∷ answer 0 Good ∷ write 2 ∷ startStop 1 stop ∷ next 1 ∷ answer 1 Good ∷ [])) (next 0) .said
-    ≡ sent (Send (registers 0xE0 0 0 0))
+    ≡ sent (Send (ataCommand 0xE0 0 0 0))
 unfolding computed
 any-flush-serves = refl

@@ -7,31 +7,33 @@ use Prim.Native.Nat.{ℕ}
 use lib.Dec.{eqb, ltb}
 use lib.ListN.{set, replicate}
 use borrow.Author.Tests.{eqb-true}
-use Rattle.epc.proofs.Effects.{either}
-use Rattle.unit.specs.Units.{emptySlot, slotOf, isWaiting, isOut, withSlot, rested}
-use Rattle.unit.specs.Refusals.{lowest}
-use Rattle.unit.specs.declared.Verdict.the-variants.{Clear}
+use Rattle.rows.proofs.Choices.{either}
+use Rattle.unit.specs.Units.{emptySlot, slotOf, isWaiting, withSlot, rested}
+use Rattle.refusals.specs.Refusals.{lowest}
+use Rattle.refusals.specs.declared.Verdict.the-variants.{Clear}
 use Rattle.unit.specs.declared.Slot.{Slot}
 use Rattle.unit.specs.declared.Slot.the-variants.{Empty, Waiting}
 use Rattle.unit.specs.declared.HostSlot.{HostSlot}
-use Rattle.unit.specs.declared.Target.{Target}
-use Rattle.unit.specs.declared.Request.{Request}
-use Rattle.unit.specs.declared.Failure.the-variants.{CommandSequence}
+use Rattle.requests.specs.declared.Target.{Target}
+use Rattle.requests.specs.declared.Request.{Request}
 use Rattle.unit.specs.declared.Unit.{Unit}
-use Rattle.bridge.specs.Operations.{oneMore, flushesOf, flushCounted, flushedWell, failed}
-use Rattle.bridge.specs.Bridge.{startStopRows, answerRows}
-use Rattle.bridge.specs.Cdb.{requestFor}
-use Rattle.bridge.specs.declared.Reply.the-variants.{Good}
-use Rattle.calls.specs.Calls.{tick}
-use Rattle.calls.proofs.Numbers.{clear-none}
-use Rattle.calls.specs.Kinds.{isReset}
+use Rattle.operations.specs.Operations.{oneMore, flushesOf, flushCounted}
+use Rattle.exchange.specs.Answered.{flushedWell, failed}
+use Rattle.bridge.specs.Bridge.{startStopRows}
+use Rattle.exchange.specs.Exchange.{answerRows}
+use Rattle.cdb.specs.Cdb.{requestFor}
+use Rattle.requests.specs.declared.Reply.the-variants.{Good}
+use Rattle.calls.specs.Calls.{Call, step}
+use Rattle.refusals.proofs.Lowest.{not-applies}
+use Rattle.calls.specs.Described.{isReset}
 use Rattle.runs.specs.Deeds.{Deed, begins, goesOn, does, doesA}
 use Rattle.runs.specs.Past.{cdbOf}
 use Rattle.runs.specs.Serial.{begunIn}
-use Rattle.runs.proofs.Deeds.{Taken, Cases}
+use Rattle.runs.proofs.Deeds.{Taken, deedAt, by-deed, Leaves, sweeps, marks, passes, all-others}
 use Rattle.runs.proofs.Known.{Known}
 use Rattle.runs.proofs.Slots.{inside, none-waits, slot-after, Quiet}
 use Rattle.runs.proofs.Same.{endedIn}
+use Rattle.refusals.specs.declared.Refusal.the-variants.{BadHost, OwnWaiting}
 
 abbrev pub pendingIn : Slot → List ℕ → List (List ℕ)
 pendingIn Empty cdb = []
@@ -46,7 +48,7 @@ none-pending (Waiting q) cdb h = absurd (true≢false h)
 
 module _ (past : List Deed) (u : Unit) (known : Known past u) (k : ℕ) where
   -- With each deed: what was pending and what begins is what ends and what is pending then.
-  abbrev pub Balance : Deed → Unit → Type 0
+  abbrev Balance : Deed → Unit → Type 0
   Balance d v = (doesA isReset d ≡ true → Quiet u)
       → pending k past (u .slots) ++ begunIn k d ≡ endedIn k past d ++ pending k (d ∷ past) (v .slots)
 
@@ -65,18 +67,18 @@ module _ (past : List Deed) (u : Unit) (known : Known past u) (k : ℕ) where
   begins-balance : (host : ℕ) (cdb : List ℕ) (t : Target) → lowest (startStopRows u host cdb) ≡ Clear
       → Balance (begins host cdb) (withSlot host (Waiting (requestFor t cdb)) (rested u))
   begins-balance host cdb t clear r =
-      on (eqb host k) refl ∙ sym (set-pending host _ (clear-none (startStopRows u host cdb) clear 1) _)
+      on (eqb host k) refl ∙ sym (set-pending host _ (not-applies (startStopRows u host cdb) BadHost clear) _)
     where
       on : (b : Bool) → eqb host k ≡ b → pending k past (u .slots) ++ cond b (cdb ∷ []) []
           ≡ pendingIn (cond b (Waiting (requestFor t cdb)) (slotOf (u .slots) k)) (cond b cdb (cdbOf k past))
       on true e =
           ap (λ (l : List (List ℕ)). l ++ cdb ∷ [])
-          (none-pending (slotOf (u .slots) k) (cdbOf k past) (rw (← eqb-true host k e) (clear-none (startStopRows u host cdb) clear 4)))
+          (none-pending (slotOf (u .slots) k) (cdbOf k past) (rw (← eqb-true host k e) (not-applies (startStopRows u host cdb) OwnWaiting clear)))
       on false e = unmoved
 
   flushes-balance : (host : ℕ) (q : Request) → Taken u host q → Balance (goesOn host Good) (flushedWell u host q .unit)
   flushes-balance host q taken r =
-      on (eqb host k) refl ∙ sym (set-pending host _ (clear-none (answerRows u host) (taken .clear) 0) _)
+      on (eqb host k) refl ∙ sym (set-pending host _ (not-applies (answerRows u host) BadHost (taken .clear)) _)
     where
       on : (b : Bool) → eqb host k ≡ b → pending k past (u .slots) ++ []
           ≡ pendingIn (cond b (Waiting (flushCounted q)) (slotOf (u .slots) k)) (cdbOf k past)
@@ -88,7 +90,7 @@ module _ (past : List Deed) (u : Unit) (known : Known past u) (k : ℕ) where
   ends-balance host q taken =
       on (eqb host k) refl
       ∙ ap (λ (l : List (List ℕ)). cond (eqb host k) (cdbOf host past ∷ []) [] ++ l)
-      (sym (set-pending host Empty (clear-none (answerRows u host) (taken .clear) 0) _))
+      (sym (set-pending host Empty (not-applies (answerRows u host) BadHost (taken .clear)) _))
     where
       on : (b : Bool) → eqb host k ≡ b → pending k past (u .slots) ++ []
           ≡ cond b (cdbOf host past ∷ []) [] ++ pendingIn (cond b Empty (slotOf (u .slots) k)) (cdbOf k past)
@@ -97,7 +99,7 @@ module _ (past : List Deed) (u : Unit) (known : Known past u) (k : ℕ) where
 
   fails-balance : (host : ℕ) (q : Request) (n : ℕ) → Taken u host q
       → pending k past (u .slots) ++ []
-      ≡ cond (eqb host k) (cdbOf host past ∷ []) [] ++ pending k past (failed u host q CommandSequence n .unit .slots)
+      ≡ cond (eqb host k) (cdbOf host past ∷ []) [] ++ pending k past (failed u host q n .unit .slots)
   fails-balance host q n taken =
       either
       (λ (v : Unit). pending k past (u .slots) ++ [] ≡ cond (eqb host k) (cdbOf host past ∷ []) [] ++ pending k past (v .slots))
@@ -106,8 +108,13 @@ module _ (past : List Deed) (u : Unit) (known : Known past u) (k : ℕ) where
   resets-balance : Quiet u → pending k past (u .slots) ++ [] ≡ pendingIn (slotOf (replicate 4 emptySlot) k) (cdbOf k past)
   resets-balance quiet = rw (quiet k, none-waits k)
 
-  pub balanced : Cases Balance u
-  balanced = record {
+  other-balance : (c : Call) (v : Unit) → Leaves u c v → Balance (does c) v
+  other-balance c v (sweeps power-on is slots none mark) r = rw slots (resets-balance (r (is .0)))
+  other-balance c v (marks is none slots same mark) r = rw slots unmoved
+  other-balance c v (passes is slots same mark) r = rw slots unmoved
+
+  pub balanced : (c : Call) → Balance (deedAt u c) (step u c)
+  balanced = by-deed Balance u (record {
     refused = λ c r. unmoved;
     aborted = λ q ten r. unmoved;
     begun = λ host cdb t clear wants. begins-balance host cdb t clear;
@@ -116,13 +123,4 @@ module _ (past : List Deed) (u : Unit) (known : Known past u) (k : ℕ) where
     flush-failed = λ host q taken f r. fails-balance host q (oneMore (flushesOf (q .stage))) taken;
     last-succeeded = λ host reply q taken f g r. ends-balance host q taken;
     last-failed = λ host reply q taken f g r. fails-balance host q (flushesOf (q .stage)) taken;
-    epc = λ q clear r. unmoved;
-    ticks = either (Balance (does tick)) (isOut (u .out)) _ _ (λ r. unmoved) (λ r. unmoved);
-    reads = λ host clear r. unmoved;
-    writes = λ host clear r. unmoved;
-    powers-on = λ r. resets-balance (r refl);
-    resets-hard = λ r. resets-balance (r refl);
-    resets-soft = λ r. resets-balance (r refl);
-    tells = λ host buffer clear r. unmoved;
-    logs = λ buffer clear r. unmoved;
-  }
+  }) (all-others Balance u (λ c v did. other-balance c v (did .leaves)))

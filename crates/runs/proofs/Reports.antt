@@ -5,39 +5,41 @@ use mathlib.Core.List.{List}
 use Prim.Native.Nat.{ℕ}
 use native.Mathlib.Omega.{arith}
 use Rattle.drive.specs.declared.Record.{Record}
-use Rattle.pages.specs.declared.Sense.{Sense}
-use Rattle.unit.specs.Units.{slotOf, heldOf, requestWellFormed, slotWellFormed, wellFormed}
-use Rattle.unit.specs.Calls.{failureSense}
-use Rattle.unit.specs.declared.Target.{Target}
-use Rattle.unit.specs.declared.Target.the-variants.{Stop, Start, GoTo}
-use Rattle.unit.specs.declared.Stage.{Stage}
-use Rattle.unit.specs.declared.Stage.the-variants.{Straight, Flushing}
-use Rattle.unit.specs.declared.Request.{Request}
+use Rattle.senses.specs.declared.Sense.{Sense}
+use Rattle.unit.specs.Units.{slotOf, heldOf, slotWellFormed, wellFormed}
+use Rattle.requests.specs.Requests.{requestWellFormed, failureSense}
+use Rattle.requests.specs.declared.Target.{Target}
+use Rattle.requests.specs.declared.Target.the-variants.{Stop, Start, GoTo}
+use Rattle.requests.specs.declared.Stage.{Stage}
+use Rattle.requests.specs.declared.Stage.the-variants.{Straight, Flushing}
+use Rattle.requests.specs.declared.Request.{Request}
 use Rattle.unit.specs.declared.Slot.the-variants.{Waiting}
 use Rattle.unit.specs.declared.Held.the-variants.{Holds}
 use Rattle.unit.specs.declared.HostHeld.{HostHeld}
-use Rattle.unit.specs.declared.Failure.{Failure}
-use Rattle.unit.specs.declared.Failure.the-variants.{CommandSequence}
-use Rattle.unit.specs.declared.SenseDue.the-variants.{NoSense, WithSense}
+use Rattle.requests.specs.declared.Failure.{Failure}
+use Rattle.refusals.specs.declared.SenseDue.the-variants.{NoSense, WithSense}
 use Rattle.unit.specs.declared.Unit.{Unit}
-use Rattle.bridge.specs.Cdb.{immed, wanted}
-use Rattle.bridge.specs.Operations.{lastOf, dueAt, dueFrom, isFlush, countsAsGood, oneMore, flushesOf, reportGood, reportFailed, taken, failed}
-use Rattle.bridge.specs.Bridge.{answerRows}
-use Rattle.bridge.specs.declared.Wanted.the-variants.{Wants}
-use Rattle.bridge.specs.declared.Reply.{Reply}
-use Rattle.bridge.specs.declared.Reply.the-variants.{Bad}
-use Rattle.bridge.specs.declared.Report.{Report}
-use Rattle.bridge.specs.declared.Status.the-variants.{NoStatus, GoodStatus, CheckCondition}
+use Rattle.cdb.specs.Cdb.{immed, wanted}
+use Rattle.operations.specs.Operations.{failureOf, lastOf, dueAt, dueFrom, isFlush, countsAsGood, oneMore, flushesOf, reportGood, reportFailed}
+use Rattle.exchange.specs.Answered.{failed}
+use Rattle.exchange.specs.Exchange.{answerRows}
+use Rattle.cdb.specs.declared.Wanted.the-variants.{Wants}
+use Rattle.requests.specs.declared.Reply.{Reply}
+use Rattle.requests.specs.declared.Reply.the-variants.{Bad}
+use Rattle.operations.specs.declared.Report.{Report}
+use Rattle.operations.specs.declared.Status.the-variants.{NoStatus, GoodStatus, CheckCondition}
 use Rattle.calls.specs.Calls.{startStop, answer, outcome, step, run}
-use Rattle.calls.proofs.Numbers.{clear-none}
-use Rattle.calls.proofs.Hosts.{own-held}
-use Rattle.calls.proofs.WellFormed.{unit-fine, well-formed-kept, run-well-formed}
+use Rattle.refusals.proofs.Lowest.{not-applies}
+use Rattle.unit.proofs.Hosts.{own-held}
+use Rattle.unit.proofs.WellFormed.{unit-fine}
+use Rattle.calls.proofs.WellFormed.{well-formed-kept, run-well-formed}
 use Rattle.runs.specs.Deeds.{ends}
 use Rattle.runs.specs.Reports.{fails, EndReported}
 use Rattle.runs.proofs.Slots.{waiting-same}
 use Rattle.runs.proofs.Deeds.{Taken, deedAt, when-ended}
 use Rattle.runs.proofs.HeldSenses.{held-inside, heldAfter, failed-held}
 use Rattle.runs.proofs.Fates.{begun-said, one-fate}
+use Rattle.refusals.specs.declared.Refusal.the-variants.{BadHost}
 
 -- A start sends no flush, so a bad flush is a failure.
 bad-flush : (rs : List Record) (t : Target) (stage : Stage) (unsaved : Bool) → requestWellFormed rs t stage ≡ true
@@ -52,7 +54,7 @@ pub record Closes (u : Unit) (host : ℕ) (reply : Reply) (report : Report) (v :
   pub request : Request
   pub waiting : slotOf (u .slots) host ≡ Waiting request
   pub status : report .status ≡ cond (request .immed) NoStatus (cond (fails (Wants (request .target)) reply) CheckCondition GoodStatus)
-  pub sense : report .sense ≡ cond (fails (Wants (request .target)) reply) (WithSense (failureSense CommandSequence)) NoSense
+  pub sense : report .sense ≡ cond (fails (Wants (request .target)) reply) (WithSense (failureSense (failureOf (request .target)))) NoSense
   pub held : (s : Sense) → report .status ≡ NoStatus → report .sense ≡ WithSense s
       → (f : Failure) × (heldOf (v .held) host ≡ Holds f) × (failureSense f ≡ s)
 
@@ -68,26 +70,27 @@ module _ (u : Unit) (fine : wellFormed u ≡ true) where
     }
 
     failed-closes : (n : ℕ) → countsAsGood (q .target) reply ≡ false
-        → Closes u host reply (reportFailed (q .immed) CommandSequence n) (failed u host q CommandSequence n .unit)
+        → Closes u host reply (reportFailed (q .immed) (failureOf (q .target)) n) (failed u host q n .unit)
     failed-closes n bad = record {
       request = q;
       waiting = taken .waiting;
       status = rw bad;
       sense = rw bad;
       held = λ s none e. (
-        CommandSequence,
+        failureOf (q .target),
         ap (λ (l : List HostHeld). heldOf l host) (failed-held u host q n) ∙ holds (q .immed) none,
         cc,
       );
     }
       where
-        holds : (b : Bool) → cond b NoStatus CheckCondition ≡ NoStatus → heldOf (heldAfter (u .held) host b) host ≡ Holds CommandSequence
-        holds true none = own-held (u .held) host _ (held-inside u host fine (clear-none (answerRows u host) (taken .clear) 0))
+        holds : (b : Bool) → cond b NoStatus CheckCondition ≡ NoStatus
+            → heldOf (heldAfter (u .held) host b (failureOf (q .target))) host ≡ Holds (failureOf (q .target))
+        holds true none = own-held (u .held) host _ (held-inside u host fine (not-applies (answerRows u host) BadHost (taken .clear)))
         holds false none = let no : _≡_ {A = ℕ} 0 1 = cc in absurd (omega arith)
 
   flush-failed-closes : (host : ℕ) (q : Request) → Taken u host q → isFlush (dueFrom (u .unsaved) q) ≡ true
       → let n = oneMore (flushesOf (q .stage)) in
-      Closes u host Bad (reportFailed (q .immed) CommandSequence n) (failed u host q CommandSequence n .unit)
+      Closes u host Bad (reportFailed (q .immed) (failureOf (q .target)) n) (failed u host q n .unit)
   flush-failed-closes host q taken f =
       let request : slotWellFormed (u .drive .records) (Waiting q) ≡ true = rw (taken .waiting) at (unit-fine u .0 fine .requests host) in
       failed-closes host Bad q taken (oneMore (flushesOf (q .stage)))
@@ -95,8 +98,7 @@ module _ (u : Unit) (fine : wellFormed u ≡ true) where
 
   pub closes : (host : ℕ) (reply : Reply) (report : Report) → deedAt u (answer host reply) ≡ ends host reply report
       → Closes u host reply report (step u (answer host reply))
-  closes = when-ended (λ host q. Prim.Unit {0}) (Closes u) u (record {
-    asked = λ host q waits. tt;
+  closes = when-ended (Closes u) u (record {
     flush-failed = flush-failed-closes;
     last-succeeded = λ host reply q taken f. succeeded-closes host reply q taken (flushesOf (q .stage)) _;
     last-failed = λ host reply q taken f. failed-closes host reply q taken (flushesOf (q .stage));

@@ -1,6 +1,6 @@
 -- The unsaved mark says whether every write is safe: a write sets it, a good flush or a power-on clears it, every other call leaves it and each write
 -- as they were. And the last command of a flushing operation is due only with the mark clear.
-use mathlib.Core.Path.{_≡_, refl, sym, _∙_}
+use mathlib.Core.Path.{_≡_, refl, sym, ap, _∙_}
 use mathlib.Core.Bool.{Bool, true, false, _||_, cond, and-false, or-false, or-true, true≢false, false≢true}
 use mathlib.Core.List.{List, [], _∷_}
 use mathlib.Core.Logic.{_↔_}
@@ -11,35 +11,34 @@ use lib.ListN.{take, drop}
 use borrow.Author.Tests.{not-true}
 use Rattle.rows.proofs.Places.{and-left, and-right}
 use Rattle.drive.specs.declared.Made.{Made}
-use Rattle.epc.proofs.Effects.{either}
-use Rattle.unit.specs.Units.{slotOf, isOut, wellFormed}
-use Rattle.bridge.specs.Bridge.{answerRows}
-use Rattle.calls.proofs.Numbers.{clear-none}
-use Rattle.unit.specs.Calls.{manufactureOutcome}
-use Rattle.unit.specs.declared.Target.{Target}
-use Rattle.unit.specs.declared.Target.the-variants.{Stop, Start, GoTo}
-use Rattle.unit.specs.declared.Stage.the-variants.{Flushing}
-use Rattle.unit.specs.declared.Request.{Request}
+use Rattle.rows.proofs.Choices.{either}
+use Rattle.unit.specs.Units.{slotOf, wellFormed}
+use Rattle.exchange.specs.Exchange.{answerRows}
+use Rattle.refusals.proofs.Lowest.{not-applies}
+use Rattle.engine.specs.Engine.{manufactureOutcome}
+use Rattle.requests.specs.declared.Stage.the-variants.{Straight, Flushing}
+use Rattle.requests.specs.declared.Request.{Request}
 use Rattle.unit.specs.declared.Slot.the-variants.{Waiting}
-use Rattle.unit.specs.declared.Failure.the-variants.{CommandSequence}
 use Rattle.unit.specs.declared.Unit.{Unit}
-use Rattle.bridge.specs.Cdb.{noFlush, stageFor}
-use Rattle.bridge.specs.Operations.{registersOf, lastOf, dueFrom, isFlush, reportFailed, failed}
-use Rattle.bridge.specs.declared.Wanted.the-variants.{Wants}
-use Rattle.bridge.specs.declared.Reply.{Reply}
-use Rattle.bridge.specs.declared.Reply.the-variants.{Good, Bad}
-use Rattle.bridge.specs.declared.Report.{Report}
-use Rattle.calls.specs.Calls.{Call, setFeatures, tick, read, write, powerOn, hardReset, softReset, requestSense, logPage, outcome, step, run}
+use Rattle.cdb.specs.Cdb.{noFlush}
+use Rattle.operations.specs.Operations.{failureOf, registersOf, lastOf, dueFrom, isFlush, reportFailed}
+use Rattle.exchange.specs.Answered.{failed}
+use Rattle.cdb.specs.declared.Wanted.the-variants.{Wants}
+use Rattle.requests.specs.declared.Reply.{Reply}
+use Rattle.requests.specs.declared.Reply.the-variants.{Good, Bad}
+use Rattle.operations.specs.declared.Report.{Report}
+use Rattle.calls.specs.Calls.{Call, setFeatures, outcome, step, run}
 use Rattle.calls.proofs.WellFormed.{manufacture-well-formed, manufacture-rests}
-use Rattle.calls.specs.Kinds.{isPowerOn, isWrite}
-use Rattle.runs.specs.Deeds.{Deed, begins, sends, goesOn, ends, does, aborts, refuses, doesA}
+use Rattle.calls.specs.Described.{isPowerOn, isWrite}
+use Rattle.runs.specs.Deeds.{Deed, begins, handsOut, goesOn, ends, does, wasAborted, wasRefused, doesA}
 use Rattle.runs.specs.Past.{pastOf, cdbOf, flushSent, heldAt255}
 use Rattle.runs.specs.Serial.{nothingWaits}
-use Rattle.runs.specs.Safe.{latestPoweredOn, latestFlushed, Written, SincePowerOn, Safe, AllSafe, SomeUnsafe, flushing, asksFlush, lastGoesOut, lastAnsweredGood, NoByteLeftBehind, MarkTells}
-use Rattle.runs.proofs.Deeds.{Taken, Cases, deedAt, by-deed}
+use Rattle.runs.specs.Safe.{latestPoweredOn, latestFlushed, WroteAgo, SincePowerOn, Safe, AllSafe, SomeUnsafe, flushing, asksFlush, lastGoesOut, lastAnsweredGood, NoByteLeftBehind, MarkTells}
+use Rattle.runs.proofs.Deeds.{Taken, deedAt, by-deed, Leaves, sweeps, marks, passes, all-others}
 use Rattle.runs.proofs.Slots.{taken-out, nothing-waits}
-use Rattle.runs.proofs.Since.{SentSince, SinceAfter, sinces}
-use Rattle.runs.proofs.Known.{along, Noted, Known, is-flush, last-means, sent-due, known-kept, known-at-first}
+use Rattle.runs.proofs.Since.{SentSince, sinces}
+use Rattle.runs.proofs.Known.{along, Noted, Known, begins-with, is-flush, last-means, sent-due, known-kept, known-at-first}
+use Rattle.refusals.specs.declared.Refusal.the-variants.{HasNone}
 
 -- ---- the command sent last
 
@@ -52,30 +51,30 @@ sent-among : (k n : ℕ) (past : List Deed) → flushSent k (take n past) ≡ tr
 sent-among k zero past h = absurd (false≢true h)
 sent-among k (suc n) [] h = h
 sent-among k (suc n) (begins host cdb ∷ past) h = sent-among k n past h
-sent-among k (suc n) (sends host q ∷ past) h = either-way (eqb host k) _ _ _ (sent-among k n past) h
+sent-among k (suc n) (handsOut host q ∷ past) h = either-way (eqb host k) _ _ _ (sent-among k n past) h
 sent-among k (suc n) (goesOn host reply ∷ past) h = sent-among k n past h
 sent-among k (suc n) (ends host reply report ∷ past) h = sent-among k n past h
 sent-among k (suc n) (does c ∷ past) h = sent-among k n past h
-sent-among k (suc n) (aborts c ∷ past) h = sent-among k n past h
-sent-among k (suc n) (refuses c ∷ past) h = sent-among k n past h
+sent-among k (suc n) (wasAborted c ∷ past) h = sent-among k n past h
+sent-among k (suc n) (wasRefused c ∷ past) h = sent-among k n past h
 
 -- So an answer to a flush sent among the latest calls is an answer to a flush.
 flushed-among : (n : ℕ) (d : Deed) (past : List Deed) → latestFlushed (d ∷ take n past) ≡ true → latestFlushed (d ∷ past) ≡ true
 flushed-among n (begins host cdb) past h = h
-flushed-among n (sends host q) past h = h
+flushed-among n (handsOut host q) past h = h
 flushed-among n (goesOn host reply) past h =
     let sent = flushSent host (take n past) in rw (sent-among host n past (and-left sent _ h)) (and-right sent _ h)
 flushed-among n (ends host reply report) past h =
     let sent = flushSent host (take n past) in rw (sent-among host n past (and-left sent _ h)) (and-right sent _ h)
 flushed-among n (does c) past h = h
-flushed-among n (aborts c) past h = h
-flushed-among n (refuses c) past h = h
+flushed-among n (wasAborted c) past h = h
+flushed-among n (wasRefused c) past h = h
 
 -- ---- what one more call makes of the writes
 
 module _ (d : Deed) (past : List Deed) where
   -- Of a call that is no write, it is asked only whether the writes before it are safe.
-  all-before : doesA isWrite d ≡ false → ((i : ℕ) → Written past i → SincePowerOn (d ∷ past) (suc i) → Safe (d ∷ past) (suc i)) → AllSafe (d ∷ past)
+  all-before : doesA isWrite d ≡ false → ((i : ℕ) → WroteAgo past i → SincePowerOn (d ∷ past) (suc i) → Safe (d ∷ past) (suc i)) → AllSafe (d ∷ past)
   all-before no-write safe zero written since = absurd (true≢false (sym written ∙ no-write))
   all-before no-write safe (suc i) written since = safe i written since
 
@@ -88,7 +87,7 @@ module _ (d : Deed) (past : List Deed) where
       all-before no-write (λ i written since. safe-later i (all i written (λ j before. since (suc j) (omega arith))))
 
   -- A good flush that was sent after every write makes every write safe.
-  all-flushed : doesA isWrite d ≡ false → ((i : ℕ) → Written past i → latestFlushed (d ∷ take i past) ≡ true) → AllSafe (d ∷ past)
+  all-flushed : doesA isWrite d ≡ false → ((i : ℕ) → WroteAgo past i → latestFlushed (d ∷ take i past) ≡ true) → AllSafe (d ∷ past)
   all-flushed no-write flushed = all-before no-write (λ i written since. (0, omega arith, flushed i written))
 
   -- No write came since a power-on just now.
@@ -100,7 +99,7 @@ module _ (d : Deed) (past : List Deed) where
   unsafe-later : doesA isPowerOn d ≡ false → latestFlushed (d ∷ past) ≡ false → SomeUnsafe past → SomeUnsafe (d ∷ past)
   unsafe-later no-power no-flush some = record {
     ago = suc (some .ago);
-    written = some .written;
+    was-write = some .was-write;
     since-power-on = since;
     not-safe = not-safe;
   }
@@ -117,7 +116,7 @@ module _ (d : Deed) (past : List Deed) where
   unsafe-written : doesA isWrite d ≡ true → SomeUnsafe (d ∷ past)
   unsafe-written wrote = record {
     ago = 0;
-    written = wrote;
+    was-write = wrote;
     since-power-on = λ j before. absurd (omega arith);
     not-safe = λ safe. omega (arith, safe .1);
   }
@@ -130,7 +129,7 @@ Marked past false = AllSafe past
 Marked past true = SomeUnsafe past
 
 contradict : {A : Type 0} (past : List Deed) → AllSafe past → SomeUnsafe past → A
-contradict past all some = absurd (some .not-safe (all (some .ago) (some .written) (some .since-power-on)))
+contradict past all some = absurd (some .not-safe (all (some .ago) (some .was-write) (some .since-power-on)))
 
 unsaved-told : (past : List Deed) (mark : Bool) → Marked past mark → (mark ≡ true) ↔ SomeUnsafe past
 unsaved-told past false all = (λ e. absurd (false≢true e), contradict past all)
@@ -148,18 +147,12 @@ marked-later d past true no-write no-power no-flush some = unsafe-later d past n
 
 -- ---- the last command of a flushing operation
 
-flushing-begun : (t : Target) (without : Bool) → flushing (Wants t) without ≡ true → stageFor t without ≡ Flushing 0
-flushing-begun Stop true h = absurd (false≢true h)
-flushing-begun Stop false h = refl
-flushing-begun Start without h = absurd (false≢true h)
-flushing-begun (GoTo c) true h = absurd (false≢true h)
-flushing-begun (GoTo c) false h = refl
-
 -- Where a flushing operation has another command due than a flush, the mark is clear.
 noted-saved : {cdb : List ℕ} {n : ℕ} {answers : List Reply} {q : Request} → Noted cdb n answers q → asksFlush cdb ≡ true
     → (unsaved : Bool) → isFlush (dueFrom unsaved q) ≡ false → unsaved ≡ false
 noted-saved {cdb} {n} {answers} {q} noted asks unsaved last =
-    let begun = flushing-begun (q .target) (noFlush cdb) (rw (noted .wants) at asks) in
+    let asked : flushing (Wants (q .target)) (noFlush cdb) ≡ true = rw (noted .wants) at asks in
+    let begun = begins-with (q .target) (noFlush cdb) ∙ ap (λ (b : Bool). cond b (Flushing 0) Straight) asked in
     let now = (rw begun at (noted .reached)) .0 in
     last-means (heldAt255 n) unsaved (lastOf (q .target)) (rw now at last) .1
 
@@ -185,7 +178,7 @@ module _ (past : List Deed) (u : Unit) (known : Known past u) (marked : Marked p
     λ last. absurd (true≢false (sym last ∙ no-last)),
   )
 
-  asked-says : (host : ℕ) (q : Request) → slotOf (u .slots) host ≡ Waiting q → After (sends host (registersOf (dueFrom (u .unsaved) q))) u
+  asked-says : (host : ℕ) (q : Request) → slotOf (u .slots) host ≡ Waiting q → After (handsOut host (registersOf (dueFrom (u .unsaved) q))) u
   asked-says host q waits = (
     marked-later _ past (u .unsaved) refl refl refl marked,
     λ last.
@@ -199,7 +192,7 @@ module _ (past : List Deed) (u : Unit) (known : Known past u) (marked : Marked p
 
   flushed-says : (host : ℕ) (q : Request) → Taken u host q → isFlush (dueFrom (u .unsaved) q) ≡ true → Says (goesOn host Good ∷ past) false
   flushed-says host q taken f =
-      let out = taken-out u host (clear-none (answerRows u host) (taken .clear) 2) in
+      let out = taken-out u host (not-applies (answerRows u host) HasNone (taken .clear)) in
       (all-flushed (goesOn host Good) past refl (λ i written. rw (since host out i written, sent-due past u known host q taken, f)), λ last. refl)
 
   -- A bad flush.
@@ -215,49 +208,47 @@ module _ (past : List Deed) (u : Unit) (known : Known past u) (marked : Marked p
   )
 
   -- A failure that is held leaves the mark too.
-  failed-says : (host : ℕ) (reply : Reply) (q : Request) (n : ℕ) → let report = reportFailed (q .immed) CommandSequence n in
-      After (ends host reply report) u → After (ends host reply report) (failed u host q CommandSequence n .unit)
-  failed-says host reply q n says = either (After (ends host reply (reportFailed (q .immed) CommandSequence n))) (q .immed) _ _ says says
+  failed-says : (host : ℕ) (reply : Reply) (q : Request) (n : ℕ) → let report = reportFailed (q .immed) (failureOf (q .target)) n in
+      After (ends host reply report) u → After (ends host reply report) (failed u host q n .unit)
+  failed-says host reply q n says = either (After (ends host reply (reportFailed (q .immed) (failureOf (q .target)) n))) (q .immed) _ _ says says
 
-  says : Cases After u
-  says = record {
-    refused = λ c. quiet (refuses c) refl refl refl refl;
-    aborted = λ q a. quiet (aborts (setFeatures q)) refl refl refl refl;
+  -- A write sets the mark, a power-on clears it, any other call that is no part of an operation leaves it.
+  other-says : (c : Call) (v : Unit) → Leaves u c v → After (does c) v
+  other-says c v (sweeps true is slots none mark) = rw mark (all-powered (does c) past (is .1) (is .2), λ last. refl)
+  other-says c v (sweeps false is slots none mark) = rw mark (quiet (does c) (is .1) (is .2) refl refl)
+  other-says c v (marks is none slots same mark) = rw mark (unsafe-written (does c) past (is .1), λ last. absurd (false≢true last))
+  other-says c v (passes is slots same mark) = rw mark (quiet (does c) (is .1) (is .2) refl refl)
+
+  says : (c : Call) → After (deedAt u c) (step u c)
+  says = by-deed After u (record {
+    refused = λ c. quiet (wasRefused c) refl refl refl refl;
+    aborted = λ q a. quiet (wasAborted (setFeatures q)) refl refl refl refl;
     begun = λ host cdb t clear wants. quiet (begins host cdb) refl refl refl refl;
     asked = λ host q clear. asked-says host q;
     flushed = flushed-says;
     flush-failed = λ host q taken f. failed-says host Bad q _ (bad-says host _);
     last-succeeded = λ host reply q taken f g. last-says host reply _ q taken f;
     last-failed = λ host reply q taken f g. failed-says host reply q _ (last-says host reply _ q taken f);
-    epc = λ q clear. quiet (does (setFeatures q)) refl refl refl refl;
-    ticks = either (After (does tick)) (isOut (u .out)) _ _ (quiet (does tick) refl refl refl refl) (quiet (does tick) refl refl refl refl);
-    reads = λ host clear. quiet (does (read host)) refl refl refl refl;
-    writes = λ host clear. (unsafe-written (does (write host)) past refl, λ last. absurd (false≢true last));
-    powers-on = (all-powered (does powerOn) past refl refl, λ last. refl);
-    resets-hard = quiet (does hardReset) refl refl refl refl;
-    resets-soft = quiet (does softReset) refl refl refl refl;
-    tells = λ host buffer clear. quiet (does (requestSense host buffer)) refl refl refl refl;
-    logs = λ buffer clear. quiet (does (logPage buffer)) refl refl refl refl;
-  }
+  }) (all-others After u (λ c v did. other-says c v (did .leaves)))
 
 -- ---- over any run from a well-formed record with nothing waiting and the mark clear
 
-abbrev Told : List Deed → Unit → Type 0
-Told past u = Known past u × Says past (u .unsaved) × SentSince past (u .out)
+abbrev Tracks : List Deed → Unit → Type 0
+Tracks past u = Known past u × Says past (u .unsaved) × SentSince past (u .out)
 
-told-kept : (past : List Deed) (u : Unit) (c : Call) → Told past u → Told (deedAt u c ∷ past) (step u c)
-told-kept past u c (known, (marked, last), since) = (
+tracks-kept : (past : List Deed) (u : Unit) (c : Call) → Tracks past u → Tracks (deedAt u c ∷ past) (step u c)
+tracks-kept past u c (known, (marked, last), since) = (
   known-kept past u c known,
-  by-deed (After past u known marked since) u (says past u known marked since) c,
-  by-deed (SinceAfter past u since) u (sinces past u since) c,
+  says past u known marked since c,
+  sinces past u since c,
 )
 
 abbrev Saved : Unit → Type 0
 Saved u = (wellFormed u ≡ true) × (nothingWaits u ≡ true) × (u .unsaved ≡ false)
 
 -- Nothing is written yet.
-told-at-first : (u : Unit) → Saved u → Told [] u
-told-at-first u (fine, none, saved) = (known-at-first u fine (nothing-waits u none), rw saved (all, λ last. refl), first)
+tracks-at-first : (u : Unit) → Saved u → Tracks [] u
+tracks-at-first u (fine, none, saved) = (known-at-first u fine (nothing-waits u none), rw saved (all, λ last. refl), first)
   where
     first : SentSince [] (u .out)
     first k is-out zero written = absurd (false≢true written)
@@ -268,18 +259,18 @@ told-at-first u (fine, none, saved) = (known-at-first u fine (nothing-waits u no
     all (suc i) written since = absurd (false≢true written)
 
 module _ (u : Unit) (rest : Saved u) (cs : List Call) where
-  told : Told (pastOf u cs) (run u cs)
-  told = along Told told-kept [] u cs (told-at-first u rest)
+  tracked : Tracks (pastOf u cs) (run u cs)
+  tracked = along Tracks tracks-kept [] u cs (tracks-at-first u rest)
 
   -- The mark is set exactly when some write accepted since the last power-on is not safe, and clear exactly when every one is.
   marked-exactly : ((run u cs .unsaved ≡ true) ↔ SomeUnsafe (pastOf u cs)) × ((run u cs .unsaved ≡ false) ↔ AllSafe (pastOf u cs))
   marked-exactly = (
-    unsaved-told (pastOf u cs) (run u cs .unsaved) (told .1 .0),
-    saved-told (pastOf u cs) (run u cs .unsaved) (told .1 .0),
+    unsaved-told (pastOf u cs) (run u cs .unsaved) (tracked .1 .0),
+    saved-told (pastOf u cs) (run u cs .unsaved) (tracked .1 .0),
   )
 
   last-all-safe : latestIsLast (pastOf u cs) ≡ true → AllSafe (pastOf u cs)
-  last-all-safe last = marked-exactly .1 .0 (told .1 .1 last)
+  last-all-safe last = marked-exactly .1 .0 (tracked .1 .1 last)
 
   -- Every one is when a flushing operation's last command goes out, and when it is answered good.
   none-left : (lastGoesOut (pastOf u cs) ≡ true → AllSafe (pastOf u cs)) × (lastAnsweredGood (pastOf u cs) ≡ true → AllSafe (pastOf u cs))

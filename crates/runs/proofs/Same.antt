@@ -11,22 +11,22 @@ use lib.ListN.{set}
 use Rattle.rows.specs.Rows.{mapAt}
 use Rattle.drive.specs.Records.{largest}
 use Rattle.drive.specs.Drives.{restarted, ticked, used, savedRestored}
-use Rattle.drive.specs.declared.Record.{Record}
-use Rattle.drive.specs.declared.Tenths.{Tenths}
-use Rattle.drive.specs.declared.Power.{Power}
 use Rattle.drive.specs.declared.Drive.{Drive}
 use Rattle.drive.proofs.Ticks.{tick-records}
+use Rattle.drive.proofs.Fields.{fall-alike, count-alike}
 use Rattle.drive.proofs.Used.{used-leaves, powered-on-leaves}
-use Rattle.epc.specs.Epc.{aborts as epcAborts, performed}
-use Rattle.epc.specs.declared.Registers.{Registers}
+use Rattle.epc.specs.Epc.{aborts, performed}
+use Rattle.registers.specs.declared.Registers.{Registers}
 use Rattle.epc.proofs.Effects.{records-after}
-use Rattle.unit.specs.Units.{slotOf, isOut, wellFormed, withDrive, rested}
-use Rattle.unit.specs.Refusals.{_gives_, lowest}
-use Rattle.unit.specs.Calls.{epcRows, tickRows, mediumRows, resetRows, senseRows, logRows, epcEffect, tickEffect, readEffect, writeEffect, powerOnEffect, hardResetEffect, senseEffect}
-use Rattle.unit.specs.declared.Refusal.the-variants.{Aborted}
-use Rattle.unit.specs.declared.Verdict.the-variants.{Clear, Given}
-use Rattle.unit.specs.declared.Stage.the-variants.{Flushing}
-use Rattle.unit.specs.declared.Request.{Request}
+use Rattle.epc.proofs.Fields.{power-after, count-after}
+use Rattle.unit.specs.Units.{largestOf, slotOf, isOut, wellFormed, withDrive, rested}
+use Rattle.refusals.specs.Refusals.{_gives_, lowest}
+use Rattle.engine.specs.Engine.{epcRows, tickRows, mediumRows, resetRows, epcEffect, tickEffect, readEffect, writeEffect, powerOnEffect, hardResetEffect}
+use Rattle.readouts.specs.Readouts.{senseRows, logRows, senseEffect}
+use Rattle.refusals.specs.declared.Refusal.the-variants.{Aborted, BadHost, BadLength, IsStopped}
+use Rattle.refusals.specs.declared.Verdict.the-variants.{Clear, Given}
+use Rattle.requests.specs.declared.Stage.the-variants.{Flushing}
+use Rattle.requests.specs.declared.Request.{Request}
 use Rattle.unit.specs.declared.Slot.{Slot}
 use Rattle.unit.specs.declared.Slot.the-variants.{Waiting}
 use Rattle.unit.specs.declared.HostSlot.{HostSlot}
@@ -34,12 +34,12 @@ use Rattle.unit.specs.declared.Out.the-variants.{NoneOut}
 use Rattle.unit.specs.declared.Unit.{Unit}
 use Rattle.calls.specs.Calls.{Call, setFeatures, tick, read, write, powerOn, hardReset, softReset, requestSense, logPage, Said, outcome}
 use Rattle.calls.specs.Table.{verdictIn}
-use Rattle.calls.specs.Numbers.{ownRows, effect}
-use Rattle.calls.proofs.Numbers.{clear-none, row-passes, row-gives, clear-when, own-told, refusal-keeps, own-effect}
-use Rattle.calls.proofs.Hosts.{other-slot}
+use Rattle.calls.specs.Described.{ownRows, effect, isReset}
+use Rattle.refusals.proofs.Lowest.{not-applies, row-passes, row-gives, clear-when}
+use Rattle.calls.proofs.Numbers.{own-told, abort-rests, own-effect}
+use Rattle.unit.proofs.Hosts.{other-slot}
 use Rattle.calls.proofs.WellFormed.{run-well-formed}
-use Rattle.calls.specs.Kinds.{isReset}
-use Rattle.runs.specs.Deeds.{Deed, begins, sends, goesOn, ends, does, aborts, refuses, another, deedOf, doesA}
+use Rattle.runs.specs.Deeds.{Deed, does, wasAborted, ifEnds, doesA, another, deedOf}
 use Rattle.runs.specs.Past.{cdbOf}
 use Rattle.runs.specs.Serial.{inPlaceOf, gather, refusedIn, otherIn, begunIn, beginnerIn, enderIn, realPlace, serialPlace}
 use Rattle.runs.proofs.Slots.{empty-waits, none-waits, Quiet, quiet-out}
@@ -89,23 +89,11 @@ pub mark-at-rest : (u v : Unit) → Quiet u → SameMark (u .slots) (u .unsaved)
 mark-at-rest u v quiet (inl e) = e
 mark-at-rest u v quiet (inr h) = empty-waits (h .request) (sym (quiet (h .host)) ∙ h .waits)
 
-drive-same : (d e : Drive) → d .records ≡ e .records → d .power ≡ e .power → d .idle ≡ e .idle → d ≡ e
-drive-same d e r p i =
-    ap (λ (x : List Record). record { records = x; power = d .power; idle = d .idle }) r
-    ∙ ap (λ (x : Power). record { records = e .records; power = x; idle = d .idle }) p
-    ∙ ap (λ (x : Tenths). record { records = e .records; power = e .power; idle = x }) i
-
 -- ---- what stands in the serial run for one call of the real one
 
 -- The CDB of this host's operation that ends with the deed.
 abbrev pub endedIn : ℕ → List Deed → Deed → List (List ℕ)
-endedIn k past (begins host cdb) = []
-endedIn k past (sends host q) = []
-endedIn k past (goesOn host reply) = []
-endedIn k past (ends host reply report) = cond (eqb host k) (cdbOf host past ∷ []) []
-endedIn k past (does c) = []
-endedIn k past (aborts c) = []
-endedIn k past (refuses c) = []
+endedIn k past = ifEnds (λ host reply report. cond (eqb host k) (cdbOf host past ∷ []) []) []
 
 -- The deeds of the calls that stand for a deed: none is refused; the same other call, as it was; one START STOP UNIT for a last answer, with its CDB.
 pub record StandFor (past : List Deed) (d : Deed) (ds : List Deed) : Type 0 where
@@ -115,6 +103,21 @@ pub record StandFor (past : List Deed) (d : Deed) (ds : List Deed) : Type 0 wher
   pub begun : (k : ℕ) → gather (begunIn k) ds ≡ endedIn k past d
   pub place : gather serialPlace ds ≡ realPlace d
   pub over : gather enderIn ds ≡ enderIn d
+
+-- A deed that nothing stands for: it is no other call and no last answer.
+abbrev pub Silent : List Deed → Deed → Type 0
+Silent past d =
+    (inPlaceOf past d ≡ []) × (otherIn d ≡ []) × (enderIn d ≡ []) × (realPlace d ≡ []) × ((k : ℕ) → endedIn k past d ≡ [])
+
+stand-none : (past : List Deed) (d : Deed) → Silent past d → StandFor past d []
+stand-none past d (none, other, ender, place, ended) = record {
+  none-refused = refl;
+  same-others = sym other;
+  beginner = sym ender;
+  begun = λ k. sym (ended k);
+  place = sym place;
+  over = sym ender;
+}
 
 pub record Follows (past : List Deed) (v : Unit) (d : Deed) (u' : Unit) : Type 0 where
   pub ds : List Deed
@@ -131,11 +134,11 @@ accepted-here v c other clear =
     runs-on v (effect v c) (effect v c) c (does c) [] [] (other (outcome v c .said) ∙ ap (another c) (own-told v c ∙ clear)) (own-effect v c clear .0)
     (runs-nothing (effect v c))
 
-aborted-here : (v : Unit) (q : Registers) → lowest (epcRows v q) ≡ Given Aborted → RunsTo v (setFeatures q ∷ []) (aborts (setFeatures q) ∷ []) (rested v)
+aborted-here : (v : Unit) (q : Registers) → lowest (epcRows v q) ≡ Given Aborted → RunsTo v (setFeatures q ∷ []) (wasAborted (setFeatures q) ∷ []) (rested v)
 aborted-here v q ten =
     let told = own-told v (setFeatures q) ∙ ten in
-    runs-on v (rested v) (rested v) (setFeatures q) (aborts (setFeatures q)) [] [] (ap (another (setFeatures q)) told)
-    (refusal-keeps v (setFeatures q) Aborted told .0) (runs-nothing (rested v))
+    runs-on v (rested v) (rested v) (setFeatures q) (wasAborted (setFeatures q)) [] [] (ap (another (setFeatures q)) told)
+    (abort-rests v (setFeatures q) told .1) (runs-nothing (rested v))
 
 pub left-fine : (v w : Unit) (cs : List Call) (ds : List Deed) → wellFormed v ≡ true → RunsTo v cs ds w → wellFormed w ≡ true
 left-fine v w cs ds fine runs = rw (← runs .left) (run-well-formed v cs fine)
@@ -148,8 +151,8 @@ module _ (past : List Deed) (u v : Unit) (fine : wellFormed u ≡ true) (same : 
   Stands d u' = (doesA isReset d ≡ true → Quiet u) → Follows past v d u'
 
   -- Nothing stands for the call in the serial run.
-  pub nothing : (d : Deed) (u' : Unit) → inPlaceOf past d ≡ [] → StandFor past d [] → Same u' v → Follows past v d u'
-  nothing d u' none f s = record { ds = []; v' = v; runs = rw none (runs-nothing v); same = s; stand = f }
+  pub nothing : (d : Deed) (u' : Unit) → Silent past d → Same u' v → Follows past v d u'
+  nothing d u' silent s = record { ds = []; v' = v; runs = rw (silent .0) (runs-nothing v); same = s; stand = stand-none past d silent }
 
   -- The call itself stands for it.
   itself : (c : Call) (u' v' : Unit) → ((said : Said) → deedOf c said ≡ another c (verdictIn said)) → lowest (ownRows v c) ≡ Clear
@@ -165,9 +168,6 @@ module _ (past : List Deed) (u v : Unit) (fine : wellFormed u ≡ true) (same : 
       }
 
   -- ---- calls that change the drive alone
-
-  drives-same : Quiet u → v .drive ≡ u .drive
-  drives-same quiet = drive-same (v .drive) (u .drive) (same .records) (same .at-rest quiet .0) (same .at-rest quiet .1)
 
   -- Both records with another drive.
   with-drives : (d e : Drive) → e .records ≡ d .records → (Quiet u → (e .power ≡ d .power) × (e .idle ≡ d .idle))
@@ -186,23 +186,26 @@ module _ (past : List Deed) (u v : Unit) (fine : wellFormed u ≡ true) (same : 
   tick-clear = clear-when (tickRows v) (rw (same .fine))
 
   -- With a command out something waits, so only the records are compared.
-  ticked-same : (b : Bool) → isOut (u .out) ≡ b → wellFormed (withDrive (ticked largest (v .drive)) v) ≡ true
-      → Same (cond b u (withDrive (ticked largest (u .drive)) u)) (withDrive (ticked largest (v .drive)) v)
+  ticked-same : (b : Bool) → isOut (u .out) ≡ b → wellFormed (withDrive (ticked (largestOf u) (v .drive)) v) ≡ true
+      → Same (cond b u (withDrive (ticked (largestOf u) (u .drive)) u)) (withDrive (ticked (largestOf u) (v .drive)) v)
   ticked-same true out =
-      with-drives (u .drive) (ticked largest (v .drive)) (tick-records largest (v .drive) ∙ same .records)
+      with-drives (u .drive) (ticked (largestOf u) (v .drive)) (tick-records largest (v .drive) ∙ same .records)
       (λ quiet. absurd (false≢true (sym (ap isOut (quiet-out u fine quiet)) ∙ out)))
   ticked-same false out =
-      with-drives (ticked largest (u .drive)) (ticked largest (v .drive))
+      with-drives (ticked (largestOf u) (u .drive)) (ticked (largestOf u) (v .drive))
       (tick-records largest (v .drive) ∙ same .records ∙ sym (tick-records largest (u .drive)))
-      (λ quiet. (rw (drives-same quiet), rw (drives-same quiet)))
+      (λ quiet. let (power, idle) = same .at-rest quiet in (
+        fall-alike largest (v .drive) (u .drive) (same .records) power idle,
+        count-alike largest (v .drive) (u .drive) idle,
+      ))
 
   pub ticks-on : Stands (does tick) (tickEffect u)
   ticks-on r =
-      itself tick (tickEffect u) (withDrive (ticked largest (v .drive)) v) (λ said. refl) tick-clear (rw none-out)
+      itself tick (tickEffect u) (withDrive (ticked (largestOf u) (v .drive)) v) (λ said. refl) tick-clear (rw none-out)
       (ticked-same (isOut (u .out)) refl)
 
   epc-clear : (q : Registers) → lowest (epcRows u q) ≡ Clear → lowest (epcRows v q) ≡ Clear
-  epc-clear q clear = clear-when (epcRows v q) (rw (same .fine, none-out, same .records, clear-none (epcRows u q) clear 2))
+  epc-clear q clear = clear-when (epcRows v q) (rw (same .fine, none-out, same .records, not-applies (epcRows u q) Aborted clear))
 
   records-same : (q : Registers) → performed q (v .drive) .records ≡ performed q (u .drive) .records
   records-same q = records-after q (v .drive) ∙ rw (same .records) (sym (records-after q (u .drive)))
@@ -210,18 +213,21 @@ module _ (past : List Deed) (u v : Unit) (fine : wellFormed u ≡ true) (same : 
   pub epc-on : (q : Registers) → lowest (epcRows u q) ≡ Clear → Stands (does (setFeatures q)) (epcEffect q u)
   epc-on q clear r =
       itself (setFeatures q) (epcEffect q u) (epcEffect q v) (λ said. refl) (epc-clear q clear) refl
-      (with-drives (performed q (u .drive)) (performed q (v .drive)) (records-same q) (λ quiet. (rw (drives-same quiet), rw (drives-same quiet))))
+      (with-drives (performed q (u .drive)) (performed q (v .drive)) (records-same q) (λ quiet. (
+        power-after q (v .drive) ∙ rw (same .at-rest quiet .0) (sym (power-after q (u .drive))),
+        count-after q (v .drive) ∙ sym (count-after q (u .drive)),
+      )))
 
-  aborts-given : (q : Registers) → epcAborts q (u .drive .records) ≡ true → lowest (epcRows v q) ≡ Given Aborted
+  aborts-given : (q : Registers) → aborts q (u .drive .records) ≡ true → lowest (epcRows v q) ≡ Given Aborted
   aborts-given q ten =
       row-passes _ _ (rw (same .fine)) ∙ row-passes _ _ (rw none-out)
-      ∙ row-gives (epcAborts q (v .drive .records) gives Aborted) [] (rw (same .records) ten)
+      ∙ row-gives (aborts q (v .drive .records) gives Aborted) [] (rw (same .records) ten)
 
-  pub aborts-on : (q : Registers) → epcAborts q (u .drive .records) ≡ true → Stands (aborts (setFeatures q)) (rested u)
+  pub aborts-on : (q : Registers) → aborts q (u .drive .records) ≡ true → Stands (wasAborted (setFeatures q)) (rested u)
   aborts-on q ten r =
       let runs = aborted-here v q (aborts-given q ten) in
       record {
-        ds = aborts (setFeatures q) ∷ [];
+        ds = wasAborted (setFeatures q) ∷ [];
         v' = rested v;
         runs = runs;
         same =
@@ -235,7 +241,7 @@ module _ (past : List Deed) (u v : Unit) (fine : wellFormed u ≡ true) (same : 
   medium-clear : (host : ℕ) → lowest (mediumRows u host) ≡ Clear → lowest (mediumRows v host) ≡ Clear
   medium-clear host clear =
       clear-when (mediumRows v host)
-      (rw (clear-none (mediumRows u host) clear 0, same .fine, none-out, same .stopped, clear-none (mediumRows u host) clear 3))
+      (rw (not-applies (mediumRows u host) BadHost clear, same .fine, none-out, same .stopped, not-applies (mediumRows u host) IsStopped clear))
 
   used-same : (used (v .drive) .records ≡ used (u .drive) .records) × (used (v .drive) .power ≡ used (u .drive) .power)
       × (used (v .drive) .idle ≡ used (u .drive) .idle)
@@ -301,7 +307,7 @@ module _ (past : List Deed) (u v : Unit) (fine : wellFormed u ≡ true) (same : 
   sense-clear : (host : ℕ) (buffer : List ℕ) → lowest (senseRows u host buffer) ≡ Clear → lowest (senseRows v host buffer) ≡ Clear
   sense-clear host buffer clear =
       clear-when (senseRows v host buffer)
-      (rw (clear-none (senseRows u host buffer) clear 0, clear-none (senseRows u host buffer) clear 1, same .fine, none-out))
+      (rw (not-applies (senseRows u host buffer) BadLength clear, not-applies (senseRows u host buffer) BadHost clear, same .fine, none-out))
 
   pub tells-on : (host : ℕ) (buffer : List ℕ) → lowest (senseRows u host buffer) ≡ Clear → Stands (does (requestSense host buffer)) (senseEffect host u)
   tells-on host buffer clear r =
@@ -316,17 +322,17 @@ module _ (past : List Deed) (u v : Unit) (fine : wellFormed u ≡ true) (same : 
       })
 
   log-clear : (buffer : List ℕ) → lowest (logRows u buffer) ≡ Clear → lowest (logRows v buffer) ≡ Clear
-  log-clear buffer clear = clear-when (logRows v buffer) (rw (clear-none (logRows u buffer) clear 0, same .fine))
+  log-clear buffer clear = clear-when (logRows v buffer) (rw (not-applies (logRows u buffer) BadLength clear, same .fine))
 
   pub logs-on : (buffer : List ℕ) → lowest (logRows u buffer) ≡ Clear → Stands (does (logPage buffer)) u
   logs-on buffer clear r = itself (logPage buffer) u v (λ said. refl) (log-clear buffer clear) refl (λ ok. same)
 
   -- ---- an operation under way: nothing stands in the serial run, and something waits in the real one
 
-  pub waits-on : (d : Deed) (u' : Unit) → inPlaceOf past d ≡ [] → StandFor past d [] → (host : ℕ) (q : Request) → slotOf (u' .slots) host ≡ Waiting q
+  pub waits-on : (d : Deed) (u' : Unit) → Silent past d → (host : ℕ) (q : Request) → slotOf (u' .slots) host ≡ Waiting q
       → u' .drive .records ≡ u .drive .records → u' .stopped ≡ u .stopped → u' .held ≡ u .held → SameMark (u' .slots) (u' .unsaved) (v .unsaved)
       → Follows past v d u'
-  waits-on d u' none stand host q waits records stopped held mark = nothing d u' none stand (record {
+  waits-on d u' silent host q waits records stopped held mark = nothing d u' silent (record {
     fine = same .fine;
     quiet = same .quiet;
     records = same .records ∙ sym records;

@@ -10,15 +10,15 @@ use borrow.Author.Tests.{ltb-false, eqb-true, eqb-false, not-false}
 use Rattle.rows.specs.Rows.{everyAt}
 use Rattle.rows.proofs.Places.{and-left, and-right}
 use Rattle.unit.specs.Units.{emptySlot, slotOf, isWaiting, isOut, isOutFor, outWellFormed, wellFormed}
-use Rattle.unit.specs.declared.Request.{Request}
+use Rattle.requests.specs.declared.Request.{Request}
 use Rattle.unit.specs.declared.Slot.{Slot}
 use Rattle.unit.specs.declared.Slot.the-variants.{Empty, Waiting}
 use Rattle.unit.specs.declared.HostSlot.{HostSlot}
 use Rattle.unit.specs.declared.Out.{Out}
 use Rattle.unit.specs.declared.Out.the-variants.{NoneOut, OutFor}
 use Rattle.unit.specs.declared.Unit.{Unit}
-use Rattle.calls.proofs.Hosts.{own-slot, other-slot}
-use Rattle.calls.proofs.WellFormed.{unit-fine}
+use Rattle.unit.proofs.Hosts.{own-slot, other-slot}
+use Rattle.unit.proofs.WellFormed.{unit-fine}
 use Rattle.runs.specs.Serial.{nothingWaits}
 
 -- ---- what waits and what is out, by the case

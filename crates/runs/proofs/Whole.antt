@@ -8,35 +8,39 @@ use lib.Dec.{eqb, ltb}
 use lib.ListN.{length, set}
 use borrow.Author.Tests.{eqb-false}
 use Rattle.unit.specs.Units.{emptySlot, slotOf, wellFormed, withSlot, rested}
-use Rattle.unit.specs.Refusals.{lowest}
-use Rattle.unit.specs.declared.Stage.the-variants.{Flushing}
-use Rattle.unit.specs.declared.Request.{Request}
+use Rattle.refusals.specs.Refusals.{lowest}
+use Rattle.requests.specs.declared.Stage.the-variants.{Flushing}
+use Rattle.requests.specs.declared.Request.{Request}
 use Rattle.unit.specs.declared.Slot.the-variants.{Empty, Waiting}
 use Rattle.unit.specs.declared.HostSlot.{HostSlot}
 use Rattle.unit.specs.declared.Out.the-variants.{NoneOut}
-use Rattle.unit.specs.declared.Verdict.the-variants.{Clear}
+use Rattle.refusals.specs.declared.Verdict.the-variants.{Clear}
 use Rattle.unit.specs.declared.Unit.{Unit}
-use Rattle.bridge.specs.Cdb.{immed, wanted, requestFor}
-use Rattle.bridge.specs.Operations.{registersOf, dueFrom, isFlush, flushCounted, flushedWell, answeredFor}
-use Rattle.bridge.specs.Bridge.{startStopRows, nextEffect}
-use Rattle.bridge.specs.declared.Wanted.the-variants.{Wants}
+use Rattle.cdb.specs.Cdb.{immed, wanted, requestFor}
+use Rattle.operations.specs.Operations.{registersOf, dueFrom, isFlush, flushCounted}
+use Rattle.exchange.specs.Answered.{flushedWell, answeredFor}
+use Rattle.bridge.specs.Bridge.{startStopRows}
+use Rattle.exchange.specs.Exchange.{nextEffect}
+use Rattle.cdb.specs.declared.Wanted.the-variants.{Wants}
 use Rattle.bridge.specs.declared.StartStopped.{StartStopped}
-use Rattle.bridge.specs.declared.Asked.{Asked}
-use Rattle.bridge.specs.declared.Reply.{Reply}
-use Rattle.bridge.specs.declared.Reply.the-variants.{Good}
-use Rattle.bridge.specs.declared.Report.{Report}
-use Rattle.bridge.specs.declared.Progress.the-variants.{Ended}
-use Rattle.bridge.specs.declared.Replied.{Replied}
+use Rattle.exchange.specs.declared.Asked.{Asked}
+use Rattle.requests.specs.declared.Reply.{Reply}
+use Rattle.requests.specs.declared.Reply.the-variants.{Good}
+use Rattle.operations.specs.declared.Report.{Report}
+use Rattle.operations.specs.declared.Progress.the-variants.{Ended}
+use Rattle.exchange.specs.declared.Replied.{Replied}
 use Rattle.calls.specs.Calls.{Call, startStop, next, answer, progressed, step}
-use Rattle.calls.proofs.Numbers.{clear-none, own-told, start-accepted, next-accepted, answer-accepted}
-use Rattle.calls.proofs.Hosts.{own-slot, other-slot}
+use Rattle.refusals.proofs.Lowest.{not-applies}
+use Rattle.calls.proofs.Numbers.{own-told, start-accepted, next-accepted, answer-accepted}
+use Rattle.unit.proofs.Hosts.{own-slot, other-slot}
 use Rattle.calls.proofs.WellFormed.{well-formed-kept}
 use Rattle.calls.proofs.Progress.{next-clear, answer-clear, flush-answered, last-no-flush, counted-due}
-use Rattle.runs.specs.Deeds.{Deed, begins, sends, goesOn, ends, answering}
+use Rattle.runs.specs.Deeds.{Deed, begins, handsOut, goesOn, ends, answering}
 use Rattle.runs.specs.Serial.{whole}
 use Rattle.runs.proofs.Deeds.{deedAt}
 use Rattle.runs.proofs.Slots.{inside, slot-after, Quiet, quiet-out}
 use Rattle.runs.proofs.RunsTo.{RunsTo, runs-nothing, runs-on}
+use Rattle.refusals.specs.declared.Refusal.the-variants.{BadHost}
 
 -- ---- acceptance
 
@@ -52,7 +56,7 @@ pub record Admitted (v : Unit) (host : ℕ) (cdb : List ℕ) (q : Request) : Typ
 
 module _ (w : Unit) (fine : wellFormed w ≡ true) (host : ℕ) (p : Request) (waits : slotOf (w .slots) host ≡ Waiting p) (none : w .out ≡ NoneOut)
     (reply : Reply) (x : Replied) (answered : answeredFor (nextEffect host w) host p reply ≡ x) where
-  sends-due : (deedAt w (next host) ≡ sends host (registersOf (dueFrom (w .unsaved) p))) × (step w (next host) ≡ nextEffect host w)
+  sends-due : (deedAt w (next host) ≡ handsOut host (registersOf (dueFrom (w .unsaved) p))) × (step w (next host) ≡ nextEffect host w)
   sends-due =
       let clear = next-clear w fine host p waits none in
       (rw (next-accepted w host p clear waits), ap (λ (a : Asked). a .unit) (next-accepted w host p clear waits))
@@ -71,7 +75,7 @@ module _ (w : Unit) (fine : wellFormed w ≡ true) (host : ℕ) (p : Request) (w
 
   asked-once : (cs : List Call) (ds : List Deed) (y : Unit) → RunsTo (x .unit) cs ds y
       → RunsTo w (next host ∷ answer host reply ∷ cs)
-      (sends host (registersOf (dueFrom (w .unsaved) p)) ∷ answering host reply (progressed (x .answer)) ∷ ds) y
+      (handsOut host (registersOf (dueFrom (w .unsaved) p)) ∷ answering host reply (progressed (x .answer)) ∷ ds) y
   asked-once cs ds y more =
       runs-on w (nextEffect host w) y (next host) _ _ _ (sends-due .0) (sends-due .1)
       (runs-on (nextEffect host w) (x .unit) y (answer host reply) _ cs ds (takes .0) (takes .1) more)
@@ -101,7 +105,7 @@ emptied host l rest h k = slot-after l host k Empty h ∙ on (eqb host k) refl
 
 module _ (v : Unit) (host : ℕ) (cdb : List ℕ) (q : Request) (a : Admitted v host cdb q) where
   below : ltb 3 host ≡ false
-  below = clear-none (startStopRows v host cdb) (a .clear) 1
+  below = not-applies (startStopRows v host cdb) BadHost (a .clear)
 
   none-out : v .out ≡ NoneOut
   none-out = quiet-out v (a .fine) (a .quiet)
@@ -181,7 +185,7 @@ module _ (v : Unit) (host : ℕ) (cdb : List ℕ) (q : Request) (a : Admitted v 
   pub whole-once : (reply : Reply) (x : Replied) (report : Report) → answeredFor (nextEffect host begun) host first reply ≡ x
       → x .answer ≡ Ended report
       → RunsTo v (whole host cdb (reply ∷ []))
-      (begins host cdb ∷ sends host (registersOf (dueFrom (v .unsaved) first)) ∷ ends host reply report ∷ []) (x .unit)
+      (begins host cdb ∷ handsOut host (registersOf (dueFrom (v .unsaved) first)) ∷ ends host reply report ∷ []) (x .unit)
   whole-once reply x report e over =
       begins-then _ _ _
       (rw over at (asked-once begun begun-fine host first first-waits none-out reply x e [] [] (x .unit) (runs-nothing (x .unit))))
@@ -191,9 +195,9 @@ module _ (v : Unit) (host : ℕ) (cdb : List ℕ) (q : Request) (a : Admitted v 
       → answeredFor (nextEffect host (flushed .unit)) host (flushCounted first) reply ≡ x → x .answer ≡ Ended report
       → RunsTo v (whole host cdb (Good ∷ reply ∷ []))
       (begins host cdb
-      ∷ sends host (registersOf (dueFrom (v .unsaved) first))
+      ∷ handsOut host (registersOf (dueFrom (v .unsaved) first))
       ∷ goesOn host Good
-      ∷ sends host (registersOf (dueFrom false (flushCounted first)))
+      ∷ handsOut host (registersOf (dueFrom false (flushCounted first)))
       ∷ ends host reply report
       ∷ []) (x .unit)
   whole-twice flushes reply x report e over =

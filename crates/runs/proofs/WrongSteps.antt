@@ -9,36 +9,39 @@ use native.Mathlib.Omega.{arith}
 use lib.ListN.{getD, replicate, take, drop}
 use borrow.Author.Tests.{not-true}
 use Rattle.rows.proofs.Places.{and-left, and-right}
-use Rattle.drive.specs.Conditions.{depth}
-use Rattle.drive.specs.declared.Condition.the-variants.{StandbyZ}
-use Rattle.drive.specs.declared.Cause.the-variants.{Command}
+use Rattle.conditions.specs.Conditions.{depth}
+use Rattle.conditions.specs.declared.Condition.the-variants.{StandbyZ}
+use Rattle.conditions.specs.declared.Cause.the-variants.{Command}
 use Rattle.drive.specs.declared.Made.{Made}
-use Rattle.drive.specs.declared.Power.the-variants.{Low}
-use Rattle.epc.specs.declared.Registers.{Registers}
+use Rattle.conditions.specs.declared.Power.the-variants.{Low}
+use Rattle.registers.specs.declared.Registers.{Registers}
 use Rattle.unit.specs.Units.{noneHeld, isWaiting}
-use Rattle.unit.specs.Calls.{manufactureOutcome}
-use Rattle.unit.specs.declared.Refusal.the-variants.{BadRecord, OwnWaiting}
+use Rattle.engine.specs.Engine.{manufactureOutcome}
+use Rattle.refusals.specs.declared.Refusal.{Refusal}
+use Rattle.refusals.specs.declared.Refusal.the-variants.{BadRecord, OwnWaiting}
+use Rattle.refusals.specs.declared.Verdict.the-variants.{Given}
 use Rattle.unit.specs.declared.Unit.{Unit}
-use Rattle.unit.specs.declared.Target.{Target}
-use Rattle.unit.specs.declared.Target.the-variants.{Stop, Start, GoTo}
-use Rattle.bridge.specs.Operations.{registersOf, lastOf}
-use Rattle.bridge.specs.declared.Due.the-variants.{StandbyImmediate}
-use Rattle.bridge.specs.declared.Wanted.{Wanted}
-use Rattle.bridge.specs.declared.Wanted.the-variants.{Wants, Unlisted}
-use Rattle.bridge.specs.declared.Next.the-variants.{Send, NotSent}
-use Rattle.bridge.specs.declared.Reply.the-variants.{Good, Bad}
-use Rattle.calls.specs.Calls.{Call, setFeatures, tick, read, write, powerOn, hardReset, softReset, startStop, next, answer, requestSense, logPage, Said, plain, accepted, sent, progressed, Outcome, StepFunction, runBy, historyBy, run}
-use Rattle.calls.specs.Examples.{*g20, *l, *m, off, makes, fresh, idled, quiet, epc, Examples}
-use Rattle.calls.specs.Numbers.{Numbers}
-use Rattle.runs.specs.Deeds.{Deed, refuses, deedOf, deeds}
+use Rattle.requests.specs.declared.Target.{Target}
+use Rattle.requests.specs.declared.Target.the-variants.{Stop, Start, GoTo}
+use Rattle.operations.specs.Operations.{registersOf, lastOf}
+use Rattle.operations.specs.declared.Due.the-variants.{StandbyImmediate}
+use Rattle.cdb.specs.declared.Wanted.{Wanted}
+use Rattle.cdb.specs.declared.Wanted.the-variants.{Wants, Unlisted}
+use Rattle.operations.specs.declared.Next.the-variants.{Send, NotSent}
+use Rattle.requests.specs.declared.Reply.the-variants.{Good, Bad}
+use Rattle.calls.specs.Calls.{Call, tick, read, write, startStop, next, answer, requestSense, Said, plain, accepted, sent, progressed, Outcome, StepFunction, outcome, runBy, historyBy, run}
+use Rattle.calls.specs.Examples.{*g20, *l, *m, off, makes, fresh, idled, quiet, epcCall, Examples}
+use Rattle.calls.specs.Table.{verdictIn, Numbers}
+use Rattle.runs.specs.Deeds.{Deed, wasRefused, another, deedOf, deeds}
 use Rattle.runs.specs.Serial.{serialAfter, serial, nothingWaits, resetsAtRest, Compared, compared, Demand3}
 use Rattle.runs.specs.Past.{pastBy}
-use Rattle.runs.specs.Safe.{latestPoweredOn, latestFlushed, Written, AllSafe, lastGoesOut, NoByteLeftBehind, MarkTells}
+use Rattle.runs.specs.Safe.{latestPoweredOn, latestFlushed, WroteAgo, AllSafe, lastGoesOut, NoByteLeftBehind, MarkTells}
 use Rattle.runs.specs.Reports.{OneFate, EndReported, FailureTold}
 use Rattle.runs.specs.Idle.{IdleRestarts}
 use Rattle.runs.specs.Commands.{AskedFor, CommandsSent}
 use Rattle.runs.specs.FlushCount.{FlushCount}
-use Rattle.runs.specs.WrongSteps.{flushesOnce, clearsMark, writesThrough, changesNothing, keepsPower, badFlushSaves, failureStarts, refusesAll, oneForAll, inventsCount, startParks, swallows, mutes, forgets, reportsTwice, dropsAllHeld, isDue, alwaysActive}
+use Rattle.runs.proofs.WrongPrograms.{flushesOnce, clearsMark, writesThrough, changesNothing, keepsPower, badFlushSaves, failureStarts, refusing, refusesAll, oneForAll, inventsCount, startParks, swallows, mutes, forgets, reportsTwice, dropsAllHeld, isDue, alwaysActive}
+use Rattle.runs.proofs.Deeds.{Turn, starts, asks, answers, apart, turn}
 use Rattle.runs.proofs.Computed.{computed}
 
 abbrev stops : ℕ → Call
@@ -115,14 +118,14 @@ never-at latest none (d ∷ past) h zero = not-true _ (and-left (not (latest (d 
 never-at latest none (d ∷ past) h (suc j) = never-at latest none past (and-right (not (latest (d ∷ past))) _ h) j
 
 -- A write i calls ago, and no flush sent and answered good since: not every write is safe.
-unsafe-left : (past : List Deed) (i : ℕ) → Written past i → never latestPoweredOn past ≡ true → never latestFlushed (take i past) ≡ true → AllSafe past → ⊥
+unsafe-left : (past : List Deed) (i : ℕ) → WroteAgo past i → never latestPoweredOn past ≡ true → never latestFlushed (take i past) ≡ true → AllSafe past → ⊥
 unsafe-left past i written powered flushed all =
     let safe = all i written (λ j before. never-at latestPoweredOn refl past powered j) in
     true≢false (sym (safe .2) ∙ never-at latestFlushed refl (take i past) flushed (safe .0))
 
 -- A run after which a flushing operation's last command goes out over such a write.
 leaves-bytes : (by : StepFunction) (cs : List Call) (i : ℕ) → let past = pastBy by (manufactureOutcome ordered .unit) cs in
-    lastGoesOut past ≡ true → Written past i → never latestPoweredOn past ≡ true → never latestFlushed (take i past) ≡ true → NoByteLeftBehind by → ⊥
+    lastGoesOut past ≡ true → WroteAgo past i → never latestPoweredOn past ≡ true → never latestFlushed (take i past) ≡ true → NoByteLeftBehind by → ⊥
 leaves-bytes by cs i out written powered flushed holds = unsafe-left _ i written powered flushed (holds ordered cs .0 out)
 
 -- Example m's run: the stop goes out right after the write.
@@ -190,7 +193,7 @@ pub keeps-power-fails-demand-3 : Demand3 keepsPower → ⊥
 unfolding computed
 keeps-power-fails-demand-3 holds =
     let shown : _≡_ {A = ℕ} 2 0 =
-    ap (λ (k : Compared). depth (k .power)) (holds fresh (epc 0x82 0x1 ∷ stops 0 ∷ next 0 ∷ answer 0 Bad ∷ []) refl refl refl refl)
+    ap (λ (k : Compared). depth (k .power)) (holds fresh (epcCall 0x82 0x1 ∷ stops 0 ∷ next 0 ∷ answer 0 Bad ∷ []) refl refl refl refl)
     in
     omega arith
 
@@ -236,26 +239,27 @@ refuses-all-fails-g holds = let shown : _≡_ {A = ℕ} 0 1 = ap depth (holds *g
 -- Number 3 for a tick on a well-formed record: its row does not apply.
 pub refuses-all-fails-numbers : Numbers refusesAll → ⊥
 unfolding computed
-refuses-all-fails-numbers holds = false≢true (holds fresh tick BadRecord .0 refl .applies)
+refuses-all-fails-numbers holds = false≢true (holds fresh tick BadRecord .0 refl .itself)
 
 -- Demand 3 drops every refused call, so on no run does it see this program: the serial list is empty, and the record stays.
-refuses-each : (u : Unit) (c : Call) → deedOf c (refusesAll u c .said) ≡ refuses c
-refuses-each u (setFeatures q) = refl
-refuses-each u tick = refl
-refuses-each u (read host) = refl
-refuses-each u (write host) = refl
-refuses-each u powerOn = refl
-refuses-each u hardReset = refl
-refuses-each u softReset = refl
-refuses-each u (startStop host cdb) = refl
-refuses-each u (next host) = refl
-refuses-each u (answer host reply) = refl
-refuses-each u (requestSense host buffer) = refl
-refuses-each u (logPage buffer) = refl
+refusal-said : (r : Refusal) (said : Said) → verdictIn (refusing r said) ≡ Given r
+refusal-said r (plain a) = refl
+refusal-said r (accepted a) = refl
+refusal-said r (sent n) = refl
+refusal-said r (progressed p) = refl
+
+refuses-each : (u : Unit) (c : Call) → deedOf c (refusesAll u c .said) ≡ wasRefused c
+refuses-each u c = on (turn c)
+  where
+    on : {c : Call} → Turn c → deedOf c (refusesAll u c .said) ≡ wasRefused c
+    on (starts host cdb) = refl
+    on (asks host) = refl
+    on (answers host reply) = refl
+    on (apart c other) = other _ ∙ ap (another c) (refusal-said BadRecord (outcome u c .said))
 
 nothing-left : (u : Unit) (past : List Deed) (cs : List Call) → serialAfter past (deeds (historyBy refusesAll u cs)) ≡ []
 nothing-left u past [] = refl
-nothing-left u past (c ∷ cs) = rw (refuses-each u c) (nothing-left u (refuses c ∷ past) cs)
+nothing-left u past (c ∷ cs) = rw (refuses-each u c) (nothing-left u (wasRefused c ∷ past) cs)
 
 nothing-moves : (u : Unit) (cs : List Call) → runBy refusesAll u cs ≡ u
 nothing-moves u [] = refl
@@ -268,7 +272,7 @@ refuses-all-meets-demand-3 u cs w n r e = rw (nothing-left u [] cs, nothing-move
 
 pub one-for-all-fails-numbers : Numbers oneForAll → ⊥
 unfolding computed
-one-for-all-fails-numbers holds = false≢true (holds (run fresh (stops 0 ∷ [])) (stops 1) OwnWaiting .0 refl .applies)
+one-for-all-fails-numbers holds = false≢true (holds (run fresh (stops 0 ∷ [])) (stops 1) OwnWaiting .0 refl .itself)
 
 -- Demand 3 drops the call that is refused wrongly, and on the run in which the two operations would meet sees nothing.
 pub one-for-all-agrees : Agrees oneForAll (stops 0 ∷ stops 1 ∷ next 0 ∷ answer 0 Good ∷ next 1 ∷ next 0 ∷ answer 0 Good ∷ [])

@@ -4,16 +4,16 @@ use mathlib.Core.Path.{_≡_}
 use mathlib.Core.List.{List}
 use mathlib.Core.Logic.{_⊎_}
 use Prim.Native.Nat.{ℕ}
-use Rattle.epc.specs.declared.Registers.{Registers}
+use Rattle.registers.specs.declared.Registers.{Registers}
 use Rattle.unit.specs.Units.{wellFormed}
-use Rattle.unit.specs.declared.Target.{Target}
+use Rattle.requests.specs.declared.Target.{Target}
 use Rattle.unit.specs.declared.Unit.{Unit}
-use Rattle.bridge.specs.Cdb.{wanted}
-use Rattle.bridge.specs.Operations.{registersOf, lastOf}
-use Rattle.bridge.specs.declared.Due.the-variants.{Flush}
-use Rattle.bridge.specs.declared.Wanted.the-variants.{Wants}
+use Rattle.cdb.specs.Cdb.{wanted}
+use Rattle.operations.specs.Operations.{registersOf, lastOf}
+use Rattle.operations.specs.declared.Due.the-variants.{Flush}
+use Rattle.cdb.specs.declared.Wanted.the-variants.{Wants}
 use Rattle.calls.specs.Calls.{Call, next, StepFunction, runBy}
-use Rattle.runs.specs.Deeds.{sends, deedOf}
+use Rattle.runs.specs.Deeds.{handsOut, deedOf}
 use Rattle.runs.specs.Past.{pastBy, cdbOf}
 use Rattle.runs.specs.Serial.{nothingWaits}
 use Rattle.runs.specs.Safe.{asksFlush}
@@ -25,4 +25,4 @@ AskedFor cdb q = ((asksFlush cdb ≡ true) × (q ≡ registersOf Flush)) ⊎ ((t
 -- Whatever a host is handed is asked for by the CDB of its operation: over any run from a well-formed record with nothing waiting.
 abbrev pub CommandsSent : StepFunction → Type 0
 CommandsSent by = (u : Unit) (cs : List Call) (host : ℕ) (q : Registers) → wellFormed u ≡ true → nothingWaits u ≡ true
-    → deedOf (next host) (by (runBy by u cs) (next host) .said) ≡ sends host q → AskedFor (cdbOf host (pastBy by u cs)) q
+    → deedOf (next host) (by (runBy by u cs) (next host) .said) ≡ handsOut host q → AskedFor (cdbOf host (pastBy by u cs)) q

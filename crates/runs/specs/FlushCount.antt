@@ -4,12 +4,12 @@ use mathlib.Core.Path.{_≡_}
 use mathlib.Core.List.{List, _∷_}
 use Prim.Native.Nat.{ℕ}
 use Rattle.unit.specs.Units.{slotOf, wellFormed}
-use Rattle.unit.specs.declared.Request.{Request}
+use Rattle.requests.specs.declared.Request.{Request}
 use Rattle.unit.specs.declared.Slot.the-variants.{Waiting}
 use Rattle.unit.specs.declared.Unit.{Unit}
-use Rattle.bridge.specs.Operations.{flushesOf}
-use Rattle.bridge.specs.declared.Reply.{Reply}
-use Rattle.bridge.specs.declared.Report.{Report}
+use Rattle.operations.specs.Operations.{flushesOf}
+use Rattle.requests.specs.declared.Reply.{Reply}
+use Rattle.operations.specs.declared.Report.{Report}
 use Rattle.calls.specs.Calls.{Call, answer, StepFunction, runBy}
 use Rattle.runs.specs.Deeds.{ends, deedOf}
 use Rattle.runs.specs.Past.{pastBy, flushesAnswered, heldAt255}

@@ -6,5 +6,3 @@ pub mod FlushCount
 pub mod Commands
 pub mod Reports
 pub mod Idle
-pub mod WrongSteps
-pub mod Afternoon

@@ -5,52 +5,41 @@ use mathlib.Core.List.{List, [], _∷_}
 use Prim.Native.Nat.{ℕ, suc, _+_}
 use lib.Dec.{eqb}
 use Rattle.rows.specs.Rows.{everyAt}
-use Rattle.pages.specs.Senses.{senseBytes}
-use Rattle.pages.specs.declared.Sense.{Sense}
+use Rattle.senses.specs.Senses.{senseBytes}
+use Rattle.senses.specs.declared.Sense.{Sense}
 use Rattle.unit.specs.Units.{slotOf, heldOf, wellFormed}
-use Rattle.unit.specs.Calls.{failureSense}
-use Rattle.unit.specs.declared.Request.{Request}
+use Rattle.requests.specs.Requests.{failureSense}
+use Rattle.requests.specs.declared.Request.{Request}
 use Rattle.unit.specs.declared.Slot.{Slot}
 use Rattle.unit.specs.declared.Slot.the-variants.{Waiting}
 use Rattle.unit.specs.declared.Held.the-variants.{Nothing}
-use Rattle.unit.specs.declared.Failure.the-variants.{CommandSequence}
-use Rattle.unit.specs.declared.SenseDue.{SenseDue}
-use Rattle.unit.specs.declared.SenseDue.the-variants.{NoSense, WithSense}
+use Rattle.requests.specs.declared.Failure.{Failure}
+use Rattle.requests.specs.declared.Failure.the-variants.{CommandSequence}
+use Rattle.refusals.specs.declared.SenseDue.{SenseDue}
+use Rattle.refusals.specs.declared.SenseDue.the-variants.{NoSense, WithSense}
 use Rattle.unit.specs.declared.Unit.{Unit}
-use Rattle.bridge.specs.Cdb.{immed, wanted}
-use Rattle.bridge.specs.Operations.{countsAsGood}
-use Rattle.bridge.specs.declared.Wanted.{Wanted}
-use Rattle.bridge.specs.declared.Wanted.the-variants.{Wants, Unlisted}
-use Rattle.bridge.specs.declared.Acceptance.the-variants.{GoodDue, Pending}
-use Rattle.bridge.specs.declared.Reply.{Reply}
-use Rattle.bridge.specs.declared.Report.{Report}
-use Rattle.bridge.specs.declared.Status.{Status}
-use Rattle.bridge.specs.declared.Status.the-variants.{NoStatus, GoodStatus, CheckCondition}
+use Rattle.cdb.specs.Cdb.{immed, wanted}
+use Rattle.operations.specs.Operations.{failureOf, countsAsGood}
+use Rattle.cdb.specs.declared.Wanted.{Wanted}
+use Rattle.cdb.specs.declared.Wanted.the-variants.{Wants, Unlisted}
+use Rattle.operations.specs.declared.Acceptance.the-variants.{GoodDue, Pending}
+use Rattle.requests.specs.declared.Reply.{Reply}
+use Rattle.operations.specs.declared.Report.{Report}
+use Rattle.operations.specs.declared.Status.{Status}
+use Rattle.operations.specs.declared.Status.the-variants.{NoStatus, GoodStatus, CheckCondition}
 use Rattle.calls.specs.Calls.{Call, startStop, answer, requestSense, Said, accepted, StepFunction, runBy, historyBy}
-use Rattle.calls.specs.Kinds.{isReset, isSenseOf}
-use Rattle.runs.specs.Deeds.{Deed, begins, sends, goesOn, ends, does, aborts, refuses, deedOf, deeds, doesA}
+use Rattle.calls.specs.Described.{isReset, isSenseOf}
+use Rattle.runs.specs.Deeds.{Deed, begins, ends, does, ifBegins, ifEnds, doesA, deedOf, deeds}
 
 -- ---- an accepted START STOP UNIT of host k
 
 -- An end report of this host.
 abbrev pub endsFor : ℕ → Deed → Bool
-endsFor k (begins host cdb) = false
-endsFor k (sends host q) = false
-endsFor k (goesOn host reply) = false
-endsFor k (ends host reply report) = eqb host k
-endsFor k (does c) = false
-endsFor k (aborts c) = false
-endsFor k (refuses c) = false
+endsFor k = ifEnds (λ host reply report. eqb host k) false
 
 -- Another START STOP UNIT of this host accepted.
 abbrev pub beginsFor : ℕ → Deed → Bool
-beginsFor k (begins host cdb) = eqb host k
-beginsFor k (sends host q) = false
-beginsFor k (goesOn host reply) = false
-beginsFor k (ends host reply report) = false
-beginsFor k (does c) = false
-beginsFor k (aborts c) = false
-beginsFor k (refuses c) = false
+beginsFor k = ifBegins (λ host cdb. eqb host k) false
 
 -- Neither of the two, and no reset.
 abbrev pub leavesOpen : ℕ → Deed → Bool
@@ -90,13 +79,7 @@ isDeferred CheckCondition due = false
 
 -- An end report of this host whose failure is held.
 abbrev pub defersFor : ℕ → Deed → Bool
-defersFor k (begins host cdb) = false
-defersFor k (sends host q) = false
-defersFor k (goesOn host reply) = false
-defersFor k (ends host reply report) = eqb host k && isDeferred (report .status) (report .sense)
-defersFor k (does c) = false
-defersFor k (aborts c) = false
-defersFor k (refuses c) = false
+defersFor k = ifEnds (λ host reply report. eqb host k && isDeferred (report .status) (report .sense)) false
 
 -- The host's held sense stays through these: no newer failure of its own is held, no reset, no REQUEST SENSE of its own is accepted.
 abbrev pub keepsHeld : ℕ → Deed → Bool
@@ -131,6 +114,11 @@ abbrev pub fails : Wanted → Reply → Bool
 fails Unlisted reply = false
 fails (Wants t) reply = not (countsAsGood t reply)
 
+-- What it then says, by what the CDB asks for.
+abbrev pub failureFor : Wanted → Failure
+failureFor Unlisted = CommandSequence
+failureFor (Wants t) = failureOf t
+
 -- What the acceptance and the end report say, by the CDB and the last answer: the status comes with one of them, a failure with its sense.
 pub record ReportsAs (cdb : List ℕ) (reply : Reply) (said : Said) (report : Report) : Type 0 where
   -- "With IMMED 1, GOOD is due on acceptance"
@@ -138,7 +126,7 @@ pub record ReportsAs (cdb : List ℕ) (reply : Reply) (said : Said) (report : Re
   -- "With IMMED 0 the status comes with the last answer."
   pub status : report .status ≡ cond (immed cdb) NoStatus (cond (fails (wanted cdb) reply) CheckCondition GoodStatus)
   -- "Failure is ABORTED COMMAND, COMMAND SEQUENCE ERROR (0B/2C/00)."
-  pub sense : report .sense ≡ cond (fails (wanted cdb) reply) (WithSense (failureSense CommandSequence)) NoSense
+  pub sense : report .sense ≡ cond (fails (wanted cdb) reply) (WithSense (failureSense (failureFor (wanted cdb)))) NoSense
 
 -- The end report of what was still open.
 abbrev pub EndReported : StepFunction → Type 0
@@ -169,4 +157,4 @@ FailureTold by = (u : Unit) (host : ℕ) (cdb : List ℕ) (cs : List Call) (repl
     → everyAt (λ at d. keepsHeld host d) 0 (deedsAfter by v (answer host reply) later) ≡ true
     → let w = unitAfter by v (answer host reply) later in
     deedBy by w (requestSense host buffer) ≡ does (requestSense host buffer)
-    → by w (requestSense host buffer) .buffer ≡ senseBytes true (failureSense CommandSequence)
+    → by w (requestSense host buffer) .buffer ≡ senseBytes true (failureSense (failureFor (wanted cdb)))

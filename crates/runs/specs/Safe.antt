@@ -7,15 +7,15 @@ use Prim.Native.Nat.{ℕ, _<_}
 use lib.Dec.{eqb}
 use lib.ListN.{take, drop}
 use Rattle.drive.specs.declared.Made.{Made}
-use Rattle.unit.specs.Calls.{manufactureOutcome}
-use Rattle.unit.specs.declared.Target.the-variants.{Stop, Start, GoTo}
-use Rattle.bridge.specs.Cdb.{noFlush, wanted}
-use Rattle.bridge.specs.Operations.{isGood}
-use Rattle.bridge.specs.declared.Wanted.{Wanted}
-use Rattle.bridge.specs.declared.Wanted.the-variants.{Wants, Unlisted}
+use Rattle.engine.specs.Engine.{manufactureOutcome}
+use Rattle.requests.specs.declared.Target.the-variants.{Stop, Start, GoTo}
+use Rattle.cdb.specs.Cdb.{noFlush, wanted}
+use Rattle.operations.specs.Operations.{isGood}
+use Rattle.cdb.specs.declared.Wanted.{Wanted}
+use Rattle.cdb.specs.declared.Wanted.the-variants.{Wants, Unlisted}
 use Rattle.calls.specs.Calls.{Call, StepFunction, runBy}
-use Rattle.calls.specs.Kinds.{isPowerOn, isWrite}
-use Rattle.runs.specs.Deeds.{Deed, begins, sends, goesOn, ends, does, aborts, refuses, doesA}
+use Rattle.calls.specs.Described.{isPowerOn, isWrite}
+use Rattle.runs.specs.Deeds.{Deed, ifHandsOut, ifEnds, ifAnswered, doesA}
 use Rattle.runs.specs.Past.{pastBy, cdbOf, flushSent}
 
 -- ---- what the latest call was
@@ -31,18 +31,12 @@ latestPoweredOn (d ∷ past) = doesA isPowerOn d
 -- A good answer to a flush.
 abbrev pub latestFlushed : List Deed → Bool
 latestFlushed [] = false
-latestFlushed (begins host cdb ∷ past) = false
-latestFlushed (sends host q ∷ past) = false
-latestFlushed (goesOn host reply ∷ past) = flushSent host past && isGood reply
-latestFlushed (ends host reply report ∷ past) = flushSent host past && isGood reply
-latestFlushed (does c ∷ past) = false
-latestFlushed (aborts c ∷ past) = false
-latestFlushed (refuses c ∷ past) = false
+latestFlushed (d ∷ past) = ifAnswered (λ host reply. flushSent host past && isGood reply) false d
 
 -- ---- writes, by how many calls ago they came (0: the latest call)
 
-abbrev pub Written : List Deed → ℕ → Type 0
-Written past i = latestWrote (drop i past) ≡ true
+abbrev pub WroteAgo : List Deed → ℕ → Type 0
+WroteAgo past i = latestWrote (drop i past) ≡ true
 
 abbrev pub SincePowerOn : List Deed → ℕ → Type 0
 SincePowerOn past i = (j : ℕ) → j < i → latestPoweredOn (drop j past) ≡ false
@@ -53,12 +47,12 @@ Safe past i = (j : ℕ) × (j < i) × (latestFlushed (drop j (take i past)) ≡ 
 
 -- Every write accepted since the last power-on is safe.
 abbrev pub AllSafe : List Deed → Type 0
-AllSafe past = (i : ℕ) → Written past i → SincePowerOn past i → Safe past i
+AllSafe past = (i : ℕ) → WroteAgo past i → SincePowerOn past i → Safe past i
 
 -- Some write accepted since the last power-on is not.
 pub record SomeUnsafe (past : List Deed) : Type 0 where
   pub ago : ℕ
-  pub written : Written past ago
+  pub was-write : WroteAgo past ago
   pub since-power-on : SincePowerOn past ago
   pub not-safe : Safe past ago → ⊥
 
@@ -77,24 +71,12 @@ asksFlush cdb = flushing (wanted cdb) (noFlush cdb)
 -- The latest call hands out the last command of a flushing operation.
 abbrev pub lastGoesOut : List Deed → Bool
 lastGoesOut [] = false
-lastGoesOut (begins host cdb ∷ past) = false
-lastGoesOut (sends host q ∷ past) = asksFlush (cdbOf host past) && not (eqb (q .command) 0xE7)
-lastGoesOut (goesOn host reply ∷ past) = false
-lastGoesOut (ends host reply report ∷ past) = false
-lastGoesOut (does c ∷ past) = false
-lastGoesOut (aborts c ∷ past) = false
-lastGoesOut (refuses c ∷ past) = false
+lastGoesOut (d ∷ past) = ifHandsOut (λ host q. asksFlush (cdbOf host past) && not (eqb (q .command) 0xE7)) false d
 
 -- The latest call is the good answer to it: a good answer that ends the operation.
 abbrev pub lastAnsweredGood : List Deed → Bool
 lastAnsweredGood [] = false
-lastAnsweredGood (begins host cdb ∷ past) = false
-lastAnsweredGood (sends host q ∷ past) = false
-lastAnsweredGood (goesOn host reply ∷ past) = false
-lastAnsweredGood (ends host reply report ∷ past) = asksFlush (cdbOf host past) && isGood reply
-lastAnsweredGood (does c ∷ past) = false
-lastAnsweredGood (aborts c ∷ past) = false
-lastAnsweredGood (refuses c ∷ past) = false
+lastAnsweredGood (d ∷ past) = ifEnds (λ host reply report. asksFlush (cdbOf host past) && isGood reply) false d
 
 -- Whenever a flushing operation's last command goes out, and when it is answered good, every write accepted since the last power-on is safe:
 -- over any run of calls on a unit from its manufacture on.

@@ -8,37 +8,33 @@ use lib.Dec.{eqb}
 use Rattle.rows.specs.Rows.{everyAt}
 use Rattle.drive.specs.declared.Tenths.{Tenths}
 use Rattle.drive.specs.declared.Record.{Record}
-use Rattle.drive.specs.declared.Power.{Power}
+use Rattle.conditions.specs.declared.Power.{Power}
 use Rattle.unit.specs.Units.{isWaiting, wellFormed}
 use Rattle.unit.specs.declared.HostHeld.{HostHeld}
 use Rattle.unit.specs.declared.Unit.{Unit}
-use Rattle.bridge.specs.declared.Reply.{Reply}
+use Rattle.requests.specs.declared.Reply.{Reply}
 use Rattle.calls.specs.Calls.{Call, startStop, next, answer, StepFunction, Event, runBy, historyBy, run, history}
-use Rattle.calls.specs.Kinds.{isReset}
-use Rattle.runs.specs.Deeds.{Deed, begins, sends, goesOn, ends, does, aborts, refuses, deeds}
-use Rattle.runs.specs.Past.{cdbOf, replies}
+use Rattle.calls.specs.Described.{isReset}
+use Rattle.runs.specs.Deeds.{Deed, ifBegins, ifEnds, ifOther, ifRefused, deeds}
+use Rattle.runs.specs.Past.{cdbOf, answersGot}
 
 -- ---- the serial run
 
 -- "an operation run whole is accepted, asked and answered with no call between."
-abbrev pub asked : ℕ → List Reply → List Call
-asked host [] = []
-asked host (reply ∷ later) = next host ∷ answer host reply ∷ asked host later
+abbrev pub askedAndAnswered : ℕ → List Reply → List Call
+askedAndAnswered host [] = []
+askedAndAnswered host (reply ∷ later) = next host ∷ answer host reply ∷ askedAndAnswered host later
 
 abbrev pub whole : ℕ → List ℕ → List Reply → List Call
-whole host cdb answers = startStop host cdb ∷ asked host answers
+whole host cdb answers = startStop host cdb ∷ askedAndAnswered host answers
 
 -- What stands in the serial run for a call of the real one. "each START STOP UNIT is run whole, at the place of its last drive answer, with the
 -- answers its last flush and its last command got; ticks and the other calls keep their places, aborted power subcommands too, and other refused
 -- calls are dropped."
 abbrev pub inPlaceOf : List Deed → Deed → List Call
-inPlaceOf past (begins host cdb) = []
-inPlaceOf past (sends host q) = []
-inPlaceOf past (goesOn host reply) = []
-inPlaceOf past (ends host reply report) = whole host (cdbOf host past) (replies host (ends host reply report ∷ past))
-inPlaceOf past (does c) = c ∷ []
-inPlaceOf past (aborts c) = c ∷ []
-inPlaceOf past (refuses c) = []
+inPlaceOf past d =
+    ifEnds (λ host reply report. whole host (cdbOf host past) (answersGot host (d ∷ past)))
+    (ifOther (λ c. c ∷ []) [] d) d
 
 abbrev pub serialAfter : List Deed → List Deed → List Call
 serialAfter past [] = []
@@ -98,53 +94,23 @@ gather f (d ∷ ds) = f d ++ gather f ds
 
 -- A call refused with another number than 10.
 abbrev pub refusedIn : Deed → List Call
-refusedIn (begins host cdb) = []
-refusedIn (sends host q) = []
-refusedIn (goesOn host reply) = []
-refusedIn (ends host reply report) = []
-refusedIn (does c) = []
-refusedIn (aborts c) = []
-refusedIn (refuses c) = c ∷ []
+refusedIn = ifRefused (λ c. c ∷ []) []
 
 -- A call other than START STOP UNIT, next and answer that was accepted or aborted, with which of the two it was.
 abbrev pub otherIn : Deed → List Deed
-otherIn (begins host cdb) = []
-otherIn (sends host q) = []
-otherIn (goesOn host reply) = []
-otherIn (ends host reply report) = []
-otherIn (does c) = does c ∷ []
-otherIn (aborts c) = aborts c ∷ []
-otherIn (refuses c) = []
+otherIn d = ifOther (λ c. d ∷ []) [] d
 
 -- The CDB of this host's accepted START STOP UNIT.
 abbrev pub begunIn : ℕ → Deed → List (List ℕ)
-begunIn k (begins host cdb) = cond (eqb host k) (cdb ∷ []) []
-begunIn k (sends host q) = []
-begunIn k (goesOn host reply) = []
-begunIn k (ends host reply report) = []
-begunIn k (does c) = []
-begunIn k (aborts c) = []
-begunIn k (refuses c) = []
+begunIn k = ifBegins (λ host cdb. cond (eqb host k) (cdb ∷ []) []) []
 
 -- The host of an accepted START STOP UNIT.
 abbrev pub beginnerIn : Deed → List ℕ
-beginnerIn (begins host cdb) = host ∷ []
-beginnerIn (sends host q) = []
-beginnerIn (goesOn host reply) = []
-beginnerIn (ends host reply report) = []
-beginnerIn (does c) = []
-beginnerIn (aborts c) = []
-beginnerIn (refuses c) = []
+beginnerIn = ifBegins (λ host cdb. host ∷ []) []
 
 -- The host of a last drive answer.
 abbrev pub enderIn : Deed → List ℕ
-enderIn (begins host cdb) = []
-enderIn (sends host q) = []
-enderIn (goesOn host reply) = []
-enderIn (ends host reply report) = host ∷ []
-enderIn (does c) = []
-enderIn (aborts c) = []
-enderIn (refuses c) = []
+enderIn = ifEnds (λ host reply report. host ∷ []) []
 
 -- A place in a run: another call, as it was, or an operation of this host.
 pub data Place : Type 0 where
@@ -153,23 +119,11 @@ pub data Place : Type 0 where
 
 -- In the real run an operation's place is that of its last drive answer,
 abbrev pub realPlace : Deed → List Place
-realPlace (begins host cdb) = []
-realPlace (sends host q) = []
-realPlace (goesOn host reply) = []
-realPlace (ends host reply report) = operation host ∷ []
-realPlace (does c) = otherCall (does c) ∷ []
-realPlace (aborts c) = otherCall (aborts c) ∷ []
-realPlace (refuses c) = []
+realPlace d = ifEnds (λ host reply report. operation host ∷ []) (ifOther (λ c. otherCall d ∷ []) [] d) d
 
 -- in the serial run that of its START STOP UNIT.
 abbrev pub serialPlace : Deed → List Place
-serialPlace (begins host cdb) = operation host ∷ []
-serialPlace (sends host q) = []
-serialPlace (goesOn host reply) = []
-serialPlace (ends host reply report) = []
-serialPlace (does c) = otherCall (does c) ∷ []
-serialPlace (aborts c) = otherCall (aborts c) ∷ []
-serialPlace (refuses c) = []
+serialPlace d = ifBegins (λ host cdb. operation host ∷ []) (ifOther (λ c. otherCall d ∷ []) [] d) d
 
 -- The deeds of a real run beside those of its serial run.
 pub record Serialises (real serially : List Deed) : Type 0 where

@@ -1,2 +1,1 @@
-pub mod Cdbs
 pub mod Tables

@@ -9,7 +9,7 @@ use borrow.Author.Tests.{ne-eqb}
 use lib.ListN.{length}
 use Rattle.asked.specs.declared.Line.the-variants.{Wrong}
 use Rattle.words.specs.Words.{placeIn, same, wordAt, words}
-use Rattle.script.specs.Lines.{Entry, askedBy, calls, lone, names, parts, readBy, readerAt}
+use Rattle.script.specs.Lines.{Entry, lineOfWords, callEntries, loneEntries, names, partEntries, readBy, readerAt}
 
 -- None of the first n places, in the words in which a match says so of its last arm.
 abbrev pub Missed : ℕ → ℕ → Type 0
@@ -28,8 +28,8 @@ no-reader (e ∷ es) (suc k) line h = no-reader es k line (omega arith)
 pub past-end : (es : List Entry) (k : ℕ) (line : List ℕ) → Missed (length es) k → Wrong ≡ readerAt es k line
 past-end es k line m = sym (no-reader es k line (above (length es) k m))
 
-pub some-words : (line : List ℕ) → (length (words line) ≡ 0 → ⊥) → askedBy line ≡ readBy (calls ++ (parts ++ lone)) line
-unfolding askedBy
+pub some-words : (line : List ℕ) → (length (words line) ≡ 0 → ⊥) → lineOfWords line ≡ readBy (callEntries ++ (partEntries ++ loneEntries)) line
+unfolding lineOfWords
 some-words line h = rw (ne-eqb (length (words line)) 0 h)
 
 module _ (line : List ℕ) where

@@ -4,14 +4,17 @@ use mathlib.Core.List.{List, [], _∷_, _++_}
 use Prim.Native.Nat.{ℕ, zero, suc}
 use Prim.Native.String.{String}
 use lib.Dec.{ltb}
-use lib.ListN.{length, take}
+use lib.ListN.{length}
 use Rattle.asked.specs.declared.Line.{Line}
 use Rattle.asked.specs.declared.Line.the-variants.{Blank, Wrong, Opens, Closes, Shows, Tables}
 use Rattle.words.specs.Codes.{codes}
-use Rattle.words.specs.Lines.{beforeReturn}
 use Rattle.words.specs.Words.{same, wordAt}
-use Rattle.script.specs.Calls.{hasWords, offered, tickLine, epcLine, readLine, writeLine, resetLine, startStopLine, nextLine, answerLine, senseLine, logLine}
-use Rattle.script.specs.Parts.{conditionLine, stateLine, slotLine, heldLine, outLine}
+use Rattle.words.specs.Fields.{hasWords}
+use Rattle.asked.specs.Offers.{offered}
+use Rattle.commands.specs.Commands.{tickLine, epcLine, readLine, writeLine, resetLine, startStopLine, nextLine, answerLine, senseLine, logLine}
+use Rattle.parts.specs.Parts.{conditionLine, stateLine}
+use Rattle.hosts.specs.Hosts.{slotLine, heldLine, outLine}
+use Rattle.words.specs.Lines.{lineIn}
 
 -- A command: its name, and what a line that starts with it asks for.
 pub record Entry : Type 0 where
@@ -22,8 +25,8 @@ infixl 20 _reads_
 abbrev pub _reads_ : String → (List ℕ → Line) → Entry
 name reads reader = record { name = codes name; reader = reader }
 
-abbrev pub calls : List Entry
-calls =
+abbrev pub callEntries : List Entry
+callEntries =
     ("tick" reads tickLine)
     ∷ ("epc" reads epcLine)
     ∷ ("read" reads readLine)
@@ -36,8 +39,8 @@ calls =
     ∷ ("log" reads logLine)
     ∷ []
 
-abbrev pub parts : List Entry
-parts =
+abbrev pub partEntries : List Entry
+partEntries =
     ("c" reads conditionLine)
     ∷ ("state" reads stateLine)
     ∷ ("slot" reads slotLine)
@@ -49,8 +52,8 @@ parts =
 abbrev pub alone : Line → List ℕ → Line
 alone asked line = offered (hasWords 1 line) asked
 
-abbrev pub lone : List Entry
-lone = ("unit" reads alone Opens) ∷ ("end" reads alone Closes) ∷ ("show" reads alone Shows) ∷ ("table" reads alone Tables) ∷ []
+abbrev pub loneEntries : List Entry
+loneEntries = ("unit" reads alone Opens) ∷ ("end" reads alone Closes) ∷ ("show" reads alone Shows) ∷ ("table" reads alone Tables) ∷ []
 
 abbrev pub names : List Entry → List (List ℕ)
 names [] = []
@@ -67,13 +70,9 @@ readBy [] line = Wrong
 readBy (e ∷ es) line = cond (same (wordAt 0 line) (e .name)) ((e .reader) line) (readBy es line)
 
 -- "A line with no word prints nothing."
-unfoldable pub askedBy : List ℕ → Line
-askedBy line = cond (hasWords 0 line) Blank (readBy (calls ++ parts ++ lone) line)
-
--- "one CR just before the LF, or before the end of input, is dropped".
-abbrev pub lineIn : List ℕ → List ℕ
-lineIn text = take (beforeReturn text) text
+unfoldable pub lineOfWords : List ℕ → Line
+lineOfWords line = cond (hasWords 0 line) Blank (readBy (callEntries ++ partEntries ++ loneEntries) line)
 
 -- "A line of more than 4,000 bytes before the LF is `error`, whatever is in it."
-unfoldable pub lineOf : List ℕ → Line
-lineOf text = cond (ltb 4000 (length text)) Wrong (askedBy (lineIn text))
+unfoldable pub lineOfText : List ℕ → Line
+lineOfText text = cond (ltb 4000 (length text)) Wrong (lineOfWords (lineIn text))

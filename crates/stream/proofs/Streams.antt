@@ -1,4 +1,4 @@
--- Bytes are heard one after the other, so in whatever pieces: those before an LF only grow what is kept, and the LF behind them answers.
+-- Bytes are fed one after the other, so in whatever pieces: those before an LF only grow what is kept, and the LF behind them answers.
 -- What is printed is only added to, so it may be written out at any time.
 use mathlib.Core.Path.{_≡_, refl, sym, ap, _∙_}
 use mathlib.Core.Bool.{Bool, true, false, cond}
@@ -12,22 +12,22 @@ use lib.Seq.{take-all, take-add, take-suc, drop-drop}
 use Rattle.words.specs.Lines.{beforeFeed}
 use Rattle.digits.specs.Sheets.{joined}
 use Rattle.replies.specs.Lines.{response, okOrError}
-use Rattle.stream.specs.Streams.{Stream, answered, keeps, heard, heardAll, finished, unheard, emptied, writtenOut, InPieces, between}
+use Rattle.stream.specs.Streams.{Stream, answered, keepsByte, fed, fedAll, finished, unfed, emptied, writtenOut, InPieces, bytesBetween}
 
 -- ---- piece by piece
 
-heard-pieces : (s : Stream) (a b : List ℕ) → heardAll s (a ++ b) ≡ heardAll (heardAll s a) b
-unfolding heardAll
-heard-pieces s [] b = refl
-heard-pieces s (x ∷ a) b = heard-pieces (heard s x) a b
+fed-pieces : (s : Stream) (a b : List ℕ) → fedAll s (a ++ b) ≡ fedAll (fedAll s a) b
+unfolding fedAll
+fed-pieces s [] b = refl
+fed-pieces s (x ∷ a) b = fed-pieces (fed s x) a b
 
--- what is heard up to i, and then from i to j, is what is heard up to j
-pub heard-on : (s : Stream) {t u : Stream} (l : List ℕ) (from i j : ℕ) → from ≤ i → i ≤ j
-    → t ≡ heardAll s (between from i l) → u ≡ heardAll t (between i j l) → u ≡ heardAll s (between from j l)
-heard-on s l from i j h k first second =
+-- what is fed up to i, and then from i to j, is what is fed up to j
+pub fed-on : (s : Stream) {t u : Stream} (l : List ℕ) (from i j : ℕ) → from ≤ i → i ≤ j
+    → t ≡ fedAll s (bytesBetween from i l) → u ≡ fedAll t (bytesBetween i j l) → u ≡ fedAll s (bytesBetween from j l)
+fed-on s l from i j h k first second =
     let both : j - from ≡ (i - from) + (j - i) = omega arith in
     let place : from + (i - from) ≡ i = omega arith in
-    rw (both, take-add, heard-pieces, drop-drop, place, ← first) second
+    rw (both, take-add, fed-pieces, drop-drop, place, ← first) second
 
 -- ---- up to an LF
 
@@ -40,7 +40,7 @@ take-twice zero a b = refl
 take-twice (suc n) [] b = refl
 take-twice (suc n) (x ∷ a) b = ap (_∷_ x) (take-twice n a b)
 
-grown-twice : (s : Stream) (b : ℕ) (more : List ℕ) → grown (keeps s b) more ≡ grown s (b ∷ more)
+grown-twice : (s : Stream) (b : ℕ) (more : List ℕ) → grown (keepsByte s b) more ≡ grown s (b ∷ more)
 grown-twice s b more = rw (take-twice, append-assoc)
 
 grown-none : (s : Stream) → length (s .kept) ≤ 4001 → grown s [] ≡ s
@@ -50,16 +50,16 @@ grown-small : (s : Stream) (more : List ℕ) → length (grown s more .kept) ≤
 grown-small s more = rw length-take (omega arith)
 
 before-feed : (s : Stream) (bs : List ℕ) → length (s .kept) ≤ 4001
-    → heardAll s (take (beforeFeed bs) bs) ≡ grown s (take (beforeFeed bs) bs)
-unfolding heardAll beforeFeed
+    → fedAll s (take (beforeFeed bs) bs) ≡ grown s (take (beforeFeed bs) bs)
+unfolding fedAll beforeFeed
 before-feed s [] h = sym (grown-none s h)
-before-feed s (b ∷ bs) h = on (eqb b (code "\n")) refl (before-feed (keeps s b) bs (grown-small s (b ∷ [])))
+before-feed s (b ∷ bs) h = on (eqb b (code "\n")) refl (before-feed (keepsByte s b) bs (grown-small s (b ∷ [])))
   where
     on : (t : Bool) → eqb b (code "\n") ≡ t
-        → heardAll (keeps s b) (take (beforeFeed bs) bs) ≡ grown (keeps s b) (take (beforeFeed bs) bs)
-        → heardAll s (take (beforeFeed (b ∷ bs)) (b ∷ bs)) ≡ grown s (take (beforeFeed (b ∷ bs)) (b ∷ bs))
+        → fedAll (keepsByte s b) (take (beforeFeed bs) bs) ≡ grown (keepsByte s b) (take (beforeFeed bs) bs)
+        → fedAll s (take (beforeFeed (b ∷ bs)) (b ∷ bs)) ≡ grown s (take (beforeFeed (b ∷ bs)) (b ∷ bs))
     on true e rest = rw e (sym (grown-none s h))
-    on false e rest = rw (e, heardAll, e) (rest ∙ grown-twice s b (take (beforeFeed bs) bs))
+    on false e rest = rw (e, fedAll, e) (rest ∙ grown-twice s b (take (beforeFeed bs) bs))
 
 -- the byte behind them, if there is one, is the LF
 at-feed : (bs : List ℕ) → beforeFeed bs < length bs → eqb (getD bs (beforeFeed bs) 0) (code "\n") ≡ true
@@ -79,15 +79,15 @@ module _ (s : Stream) (l : List ℕ) (from end : ℕ) (e : end ≡ from + before
   spanned : end - from ≡ beforeFeed (drop from l)
   spanned = omega arith
 
-  pub up-to-feed : length (s .kept) ≤ 4001 → heardAll s (between from end l) ≡ grown s (between from end l)
+  pub up-to-feed : length (s .kept) ≤ 4001 → fedAll s (bytesBetween from end l) ≡ grown s (bytesBetween from end l)
   up-to-feed h = rw spanned (before-feed s (drop from l) h)
 
-  pub past-feed : end < length l → heardAll s (between from (end + 1) l) ≡ answered (heardAll s (between from end l))
-  unfolding heardAll
+  pub past-feed : end < length l → fedAll s (bytesBetween from (end + 1) l) ≡ answered (fedAll s (bytesBetween from end l))
+  unfolding fedAll
   past-feed h =
       let one : end + 1 - from ≡ suc (end - from) = omega arith in
       let less : beforeFeed (drop from l) < length (drop from l) = rw length-drop (omega arith) in
-      rw (one, spanned, take-suc (drop from l) (beforeFeed (drop from l)) 0 less, heard-pieces, at-feed (drop from l) less)
+      rw (one, spanned, take-suc (drop from l) (beforeFeed (drop from l)) 0 less, fed-pieces, at-feed (drop from l) less)
 
 -- ---- written out piece by piece
 
@@ -95,20 +95,20 @@ module _ (s : Stream) (l : List ℕ) (from end : ℕ) (e : end ≡ from + before
 abbrev behind : List ℕ → Stream → Stream
 behind front s = record { session = s .session; kept = s .kept; printed = front ++ s .printed }
 
-heard-behind : (front : List ℕ) (s : Stream) (bs : List ℕ) → heardAll (behind front s) bs ≡ behind front (heardAll s bs)
-unfolding heardAll
-heard-behind front s [] = refl
-heard-behind front s (b ∷ bs) = rw (one (eqb b (code "\n"))) (heard-behind front (heard s b) bs)
+fed-behind : (front : List ℕ) (s : Stream) (bs : List ℕ) → fedAll (behind front s) bs ≡ behind front (fedAll s bs)
+unfolding fedAll
+fed-behind front s [] = refl
+fed-behind front s (b ∷ bs) = rw (one (eqb b (code "\n"))) (fed-behind front (fed s b) bs)
   where
-    one : (t : Bool) → cond t (answered (behind front s)) (keeps (behind front s) b) ≡ behind front (cond t (answered s) (keeps s b))
+    one : (t : Bool) → cond t (answered (behind front s)) (keepsByte (behind front s) b) ≡ behind front (cond t (answered s) (keepsByte s b))
     one true = rw append-assoc
     one false = refl
 
 -- printing only adds to what was printed
-only-adds : (s : Stream) (bs : List ℕ) → heardAll s bs ≡ behind (s .printed) (heardAll (emptied s) bs)
+only-adds : (s : Stream) (bs : List ℕ) → fedAll s bs ≡ behind (s .printed) (fedAll (emptied s) bs)
 only-adds s bs =
     let whole : behind (s .printed) (emptied s) ≡ s = rw append-nil in
-    ap (λ t. heardAll t bs) (sym whole) ∙ heard-behind (s .printed) (emptied s) bs
+    ap (λ t. fedAll t bs) (sym whole) ∙ fed-behind (s .printed) (emptied s) bs
 
 finished-behind : (s : Stream) → s .printed ++ finished (emptied s) ≡ finished s
 finished-behind s = on (response (s .session) (s .kept) .session .is_open)
@@ -116,7 +116,10 @@ finished-behind s = on (response (s .session) (s .kept) .session .is_open)
     answer : List ℕ
     answer = joined (response (s .session) (s .kept) .pieces)
 
-    on : (t : Bool) → s .printed ++ cond t (answer ++ joined (okOrError false)) answer ≡ cond t ((s .printed ++ answer) ++ joined (okOrError false)) (s .printed ++ answer)
+    last : List ℕ
+    last = joined (okOrError false)
+
+    on : (t : Bool) → s .printed ++ cond t (answer ++ last) answer ≡ cond t ((s .printed ++ answer) ++ last) (s .printed ++ answer)
     on true = rw append-assoc
     on false = refl
 
@@ -125,16 +128,16 @@ next-out : (front : List ℕ) (s : Stream) (pieces : List (List ℕ)) → writte
 next-out front s [] = refl
 next-out front s (piece ∷ more) = refl
 
-written-out : (s : Stream) (pieces : List (List ℕ)) → s .printed ++ writtenOut s pieces ≡ finished (heardAll s (joined pieces))
-unfolding heardAll
+written-out : (s : Stream) (pieces : List (List ℕ)) → s .printed ++ writtenOut s pieces ≡ finished (fedAll s (joined pieces))
+unfolding fedAll
 written-out s [] = finished-behind s
 written-out s (piece ∷ more) =
-    let t = heardAll (emptied s) piece in
+    let t = fedAll (emptied s) piece in
     sym (append-assoc (s .printed) (t .printed) (writtenOut t more))
     ∙ ap (_++_ (s .printed ++ t .printed)) (next-out (s .printed) t more)
     ∙ written-out (behind (s .printed) t) more
-    ∙ ap (λ u. finished (heardAll u (joined more))) (sym (only-adds s piece))
-    ∙ ap finished (sym (heard-pieces s piece (joined more)))
+    ∙ ap (λ u. finished (fedAll u (joined more))) (sym (only-adds s piece))
+    ∙ ap finished (sym (fed-pieces s piece (joined more)))
 
 pub in-pieces : InPieces
-in-pieces pieces = written-out unheard pieces
+in-pieces pieces = written-out unfed pieces

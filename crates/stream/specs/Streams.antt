@@ -7,7 +7,7 @@ use Prim.Native.Nat.{ℕ, _-_}
 use lib.Dec.{eqb}
 use lib.ListN.{drop, take}
 use Rattle.digits.specs.Sheets.{joined}
-use Rattle.blocks.specs.Sessions.{fresh}
+use Rattle.blocks.specs.Sessions.{startSession}
 use Rattle.blocks.specs.declared.Session.{Session}
 use Rattle.replies.specs.Lines.{Response, response, okOrError}
 use Rattle.stream.specs.declared.Run.{Run}
@@ -26,15 +26,15 @@ abbrev pub answered : Stream → Stream
 answered s = afterAnswer s (response (s .session) (s .kept))
 
 -- Of a line's bytes 4,001 are kept: enough to see that it has "more than 4,000".
-abbrev pub keeps : Stream → ℕ → Stream
-keeps s b = record { session = s .session; kept = take 4001 (s .kept ++ (b ∷ [])); printed = s .printed }
+abbrev pub keepsByte : Stream → ℕ → Stream
+keepsByte s b = record { session = s .session; kept = take 4001 (s .kept ++ (b ∷ [])); printed = s .printed }
 
-abbrev pub heard : Stream → ℕ → Stream
-heard s b = cond (eqb b (code "\n")) (answered s) (keeps s b)
+abbrev pub fed : Stream → ℕ → Stream
+fed s b = cond (eqb b (code "\n")) (answered s) (keepsByte s b)
 
-unfoldable pub heardAll : Stream → List ℕ → Stream
-heardAll s [] = s
-heardAll s (b ∷ bs) = heardAll (heard s b) bs
+unfoldable pub fedAll : Stream → List ℕ → Stream
+fedAll s [] = s
+fedAll s (b ∷ bs) = fedAll (fed s b) bs
 
 -- "the end of input inside a block prints one `error`".
 abbrev pub closedOff : Stream → List ℕ
@@ -44,13 +44,13 @@ closedOff s = cond (s .session .is_open) (s .printed ++ joined (okOrError false)
 abbrev pub finished : Stream → List ℕ
 finished s = closedOff (answered s)
 
--- A run that has heard nothing yet.
-abbrev pub unheard : Stream
-unheard = record { session = fresh; kept = []; printed = [] }
+-- A run that has been fed nothing yet.
+abbrev pub unfed : Stream
+unfed = record { session = startSession; kept = []; printed = [] }
 
 -- What a whole script prints.
 abbrev pub printedBy : List ℕ → List ℕ
-printedBy script = finished (heardAll unheard script)
+printedBy script = finished (fedAll unfed script)
 
 -- ---- in pieces
 
@@ -61,11 +61,11 @@ emptied s = record { session = s .session; kept = s .kept; printed = [] }
 -- What is written out for a script that comes in pieces: after each of them what it printed, and at the end the rest.
 abbrev pub writtenOut : Stream → List (List ℕ) → List ℕ
 writtenOut s [] = finished (emptied s)
-writtenOut s (piece ∷ more) = heardAll (emptied s) piece .printed ++ writtenOut (heardAll (emptied s) piece) more
+writtenOut s (piece ∷ more) = fedAll (emptied s) piece .printed ++ writtenOut (fedAll (emptied s) piece) more
 
 -- That is what the whole script prints, in whatever pieces it comes.
 abbrev pub InPieces : Type 0
-InPieces = (pieces : List (List ℕ)) → writtenOut unheard pieces ≡ printedBy (joined pieces)
+InPieces = (pieces : List (List ℕ)) → writtenOut unfed pieces ≡ printedBy (joined pieces)
 
 -- ---- the code's run
 
@@ -73,5 +73,5 @@ abbrev pub streamOf : Run → List ℕ → List ℕ → Stream
 streamOf r line out = record { session = r .session; kept = take (r .len) line; printed = take (r .at) out }
 
 -- The bytes from a place up to another.
-abbrev pub between : ℕ → ℕ → List ℕ → List ℕ
-between from to l = take (to - from) (drop from l)
+abbrev pub bytesBetween : ℕ → ℕ → List ℕ → List ℕ
+bytesBetween from to l = take (to - from) (drop from l)

@@ -2,8 +2,8 @@
 ghost use mathlib.Core.Path.{_≡_};
 ghost use Prim.Native.Nat.{_+_, _≤_, _<_, min};
 ghost use lib.ListN.{length, take};
-ghost use Rattle.blocks.specs.Sessions.{fresh};
-ghost use Rattle.stream.specs.Streams.{streamOf, answered, heardAll, finished, emptied, between};
+ghost use Rattle.blocks.specs.Sessions.{startSession};
+ghost use Rattle.stream.specs.Streams.{streamOf, answered, fedAll, finished, emptied, bytesBetween};
 use blocks::Session;
 
 // Where a run of a script stands: its session, how many bytes of an unended line are kept, how far `out` is written and the input read.
@@ -16,7 +16,7 @@ pub struct Run {
 
 // A run that starts.
 pub fn start() -> Run
-    ensures { λ r. ⌜ (r .session ≡ fresh) × (r .len ≡ 0) × (r .at ≡ 0) × (r .from ≡ 0) ⌝ }
+    ensures { λ r. ⌜ (r .session ≡ startSession) × (r .len ≡ 0) × (r .at ≡ 0) × (r .from ≡ 0) ⌝ }
 {
     let session = blocks::start();
     Run {
@@ -49,7 +49,7 @@ fn feed_line(r: Run, input: &[u8], line: &mut [u8], out: &mut [u8]) -> Run
     requires { ⌜ r .from < length (now input) ⌝ }
     requires { ⌜ length (now line) ≡ 4001 ⌝ }
     requires { ⌜ r .at + 4096 ≤ length (now out) ⌝ }
-    ensures { λ e. ⌜ (streamOf e (now (line .exit)) (now (out .exit)) ≡ heardAll (streamOf r (now (line .entry)) (now (out .entry))) (between (r .from) (e .from) (now (input .entry)))) × (r .from < e .from) × (e .from ≤ length (now (input .entry))) × (e .at ≤ length (now (out .exit))) ⌝ }
+    ensures { λ e. ⌜ (streamOf e (now (line .exit)) (now (out .exit)) ≡ fedAll (streamOf r (now (line .entry)) (now (out .entry))) (bytesBetween (r .from) (e .from) (now (input .entry)))) × (r .from < e .from) × (e .from ≤ length (now (input .entry))) × (e .at ≤ length (now (out .exit))) ⌝ }
 {
     let session = r.session;
     let from = r.from;
@@ -77,7 +77,7 @@ fn feed_line(r: Run, input: &[u8], line: &mut [u8], out: &mut [u8]) -> Run
 pub fn feed(r: Run, input: &[u8], line: &mut [u8], out: &mut [u8]) -> Run
     requires { ⌜ length (now line) ≡ 4001 ⌝ }
     requires { ⌜ 4096 ≤ length (now out) ⌝ }
-    ensures { λ e. ⌜ (streamOf e (now (line .exit)) (now (out .exit)) ≡ heardAll (emptied (streamOf r (now (line .entry)) (now (out .entry)))) (between (r .from) (e .from) (now (input .entry)))) × (r .from ≤ e .from) × (min (r .from + 1) (length (now (input .entry))) ≤ e .from) × (e .at ≤ length (now (out .exit))) ⌝ }
+    ensures { λ e. ⌜ (streamOf e (now (line .exit)) (now (out .exit)) ≡ fedAll (emptied (streamOf r (now (line .entry)) (now (out .entry)))) (bytesBetween (r .from) (e .from) (now (input .entry)))) × (r .from ≤ e .from) × (min (r .from + 1) (length (now (input .entry))) ≤ e .from) × (e .at ≤ length (now (out .exit))) ⌝ }
 {
     let room = out.len() - 4096;
     let session = r.session;

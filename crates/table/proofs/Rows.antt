@@ -7,8 +7,8 @@ use native.Mathlib.Numerals.{sub-one}
 use native.Mathlib.Omega.{arith}
 use lib.ListN.{getD}
 use Rattle.drive.specs.Records.{unsupported}
-use Rattle.drive.specs.declared.Condition.{Condition}
-use Rattle.drive.specs.declared.Condition.the-variants.{IdleA, IdleB, IdleC, StandbyY, StandbyZ}
+use Rattle.conditions.specs.declared.Condition.{Condition}
+use Rattle.conditions.specs.declared.Condition.the-variants.{IdleA, IdleB, IdleC, StandbyY, StandbyZ}
 use Rattle.drive.specs.declared.Drive.{Drive}
 use Rattle.words.specs.Codes.{codes}
 use Rattle.digits.specs.Texts.{cut}

@@ -6,7 +6,7 @@ use Prim.Native.Nat.{ℕ, zero, suc, _+_, _-_}
 use native.Mathlib.Omega.{arith}
 use lib.Dec.{eqb}
 use lib.ListN.{getD}
-use Rattle.drive.specs.Conditions.{conditionAt, depth}
+use Rattle.conditions.specs.Conditions.{conditionAt, depth}
 use Rattle.drive.specs.Records.{unsupported}
 use Rattle.drive.specs.declared.Drive.{Drive}
 use Rattle.drive.specs.declared.Record.{Record}
@@ -18,15 +18,15 @@ use Rattle.unit.specs.declared.Out.{Out}
 use Rattle.unit.specs.declared.Out.the-variants.{NoneOut, OutFor}
 use Rattle.unit.specs.declared.Slot.{Slot}
 use Rattle.unit.specs.declared.Slot.the-variants.{Empty, Waiting}
-use Rattle.unit.specs.declared.Stage.{Stage}
-use Rattle.unit.specs.declared.Stage.the-variants.{Straight, Flushing}
-use Rattle.unit.specs.declared.Target.{Target}
-use Rattle.unit.specs.declared.Target.the-variants.{Stop, Start, GoTo}
+use Rattle.requests.specs.declared.Stage.{Stage}
+use Rattle.requests.specs.declared.Stage.the-variants.{Straight, Flushing}
+use Rattle.requests.specs.declared.Target.{Target}
+use Rattle.requests.specs.declared.Target.the-variants.{Stop, Start, GoTo}
 use Rattle.unit.specs.declared.Unit.{Unit}
 use Rattle.words.specs.Codes.{codes}
 use Rattle.digits.specs.Numerals.{decimalText, rightIn}
 use Rattle.digits.proofs.Lengths.{Within, whole, looser, _then_, either, decimal, tenths, at-right, at-left, ended, none, each}
-use Rattle.table.specs.Rows.{yesText, secondsText, settingText, recordText, runs, leftText, recordRow, rowText}
+use Rattle.table.specs.Rows.{yesText, secondsText, settingText, recordText, isRunning, leftText, recordRow, rowText}
 use Rattle.table.specs.Below.{flagText, outText, targetText, immedText, stageText, slotText, heldText, hostText}
 use Rattle.table.specs.Table.{headText, ruleText, headAt, markAt, texts, tableLines}
 use Rattle.table.proofs.Rows.{mark, name, label}
@@ -48,7 +48,7 @@ settings r =
     then setting (r .default) then setting (r .saved) then setting (r .current)
 
 left : (s : Setting) (place : ℕ) (d : Drive) → Within (leftText s place d) 14
-left s place d = either (runs s place d) (whole (codes " *") then seconds (s .timer .0 - d .idle .0)) (whole (codes "             -"))
+left s place d = either (isRunning s place d) (whole (codes " *") then seconds (s .timer .0 - d .idle .0)) (whole (codes "             -"))
 
 recovery : (n : ℕ) → Within (rightIn 13 (decimalText n)) 13
 recovery n = at-right (looser (omega arith) (decimal n))

@@ -7,13 +7,13 @@ use Rattle.unit.specs.declared.Held.{Held}
 use Rattle.unit.specs.declared.Held.the-variants.{Nothing, Holds}
 use Rattle.unit.specs.declared.Out.{Out}
 use Rattle.unit.specs.declared.Out.the-variants.{NoneOut, OutFor}
-use Rattle.unit.specs.declared.Request.{Request}
+use Rattle.requests.specs.declared.Request.{Request}
 use Rattle.unit.specs.declared.Slot.{Slot}
 use Rattle.unit.specs.declared.Slot.the-variants.{Empty, Waiting}
-use Rattle.unit.specs.declared.Stage.{Stage}
-use Rattle.unit.specs.declared.Stage.the-variants.{Straight, Flushing}
-use Rattle.unit.specs.declared.Target.{Target}
-use Rattle.unit.specs.declared.Target.the-variants.{Stop, Start, GoTo}
+use Rattle.requests.specs.declared.Stage.{Stage}
+use Rattle.requests.specs.declared.Stage.the-variants.{Straight, Flushing}
+use Rattle.requests.specs.declared.Target.{Target}
+use Rattle.requests.specs.declared.Target.the-variants.{Stop, Start, GoTo}
 use Rattle.unit.specs.declared.Unit.{Unit}
 use Rattle.words.specs.Codes.{codes}
 use Rattle.digits.specs.Numerals.{decimalText, tenthsText}

@@ -5,10 +5,10 @@ use mathlib.Core.List.{List, _++_}
 use Prim.Native.Nat.{ℕ, zero, suc, _+_, _-_}
 use lib.Dec.{eqb, leb}
 use lib.ListN.{getD}
-use Rattle.drive.specs.Conditions.{conditionAt, depth}
+use Rattle.conditions.specs.Conditions.{conditionAt, depth}
 use Rattle.drive.specs.Records.{unsupported}
-use Rattle.drive.specs.declared.Condition.{Condition}
-use Rattle.drive.specs.declared.Condition.the-variants.{IdleA, IdleB, IdleC, StandbyY, StandbyZ}
+use Rattle.conditions.specs.declared.Condition.{Condition}
+use Rattle.conditions.specs.declared.Condition.the-variants.{IdleA, IdleB, IdleC, StandbyY, StandbyZ}
 use Rattle.drive.specs.declared.Drive.{Drive}
 use Rattle.drive.specs.declared.Record.{Record}
 use Rattle.drive.specs.declared.Setting.{Setting}
@@ -41,13 +41,13 @@ recordText r =
     ++ settingText (r .default) ++ settingText (r .saved) ++ settingText (r .current)
 
 -- A timer runs if it is enabled and names a condition below the present one: of any other, "nothing moves" when it has run out.
-abbrev pub runs : Setting → ℕ → Drive → Bool
-runs current place d = current .enabled && leb (depth (d .power)) place
+abbrev pub isRunning : Setting → ℕ → Drive → Bool
+isRunning current place d = current .enabled && leb (depth (d .power)) place
 
 -- Its mark, and how long until it has run out; 0.0 if the next tick will find that it has.
 abbrev pub leftText : Setting → ℕ → Drive → List ℕ
 leftText current place d =
-    cond (runs current place d) (codes " *" ++ secondsText (current .timer .0 - d .idle .0)) (codes "             -")
+    cond (isRunning current place d) (codes " *" ++ secondsText (current .timer .0 - d .idle .0)) (codes "             -")
 
 abbrev pub markText : Bool → List ℕ
 markText present = cond present (codes "> ") (codes "  ")

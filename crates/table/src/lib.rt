@@ -8,21 +8,21 @@ ghost use Rattle.digits.specs.Texts.{said, cut};
 ghost use Rattle.table.specs.Below;
 ghost use Rattle.table.specs.Below.{outText, targetText, stageText, requestText, slotText, heldText, hostText};
 ghost use Rattle.table.specs.Rows;
-ghost use Rattle.table.specs.Rows.{nameText, yesText, secondsText, settingText, recordText, leftText, labelText, recordRow, activeRow, rowText};
+ghost use Rattle.table.specs.Rows.{isRunning, nameText, yesText, secondsText, settingText, recordText, leftText, labelText, recordRow, activeRow, rowText};
 ghost use Rattle.table.specs.Table;
 ghost use Rattle.table.specs.Table.{texts, tableLines};
+use conditions::Condition;
 use digits::Text;
-use drive::Condition;
 use drive::Drive;
 use drive::Record;
 use drive::Setting;
 use drive::Tenths;
+use requests::Request;
+use requests::Stage;
+use requests::Target;
 use unit::Held;
 use unit::Out;
-use unit::Request;
 use unit::Slot;
-use unit::Stage;
-use unit::Target;
 use unit::Unit;
 
 // ---- a condition's row
@@ -42,10 +42,7 @@ fn put_name(t: Text, c: Condition) -> Text
 fn put_yes(t: Text, flag: bool) -> Text
     ensures { λ r. ⌜ said r ≡ cut (said t ++ yesText flag) ⌝ }
 {
-    if flag {
-        return digits::put_all(t, b"  yes");
-    }
-    digits::put_all(t, b"   no")
+    digits::put_either(t, flag, b"  yes", b"   no")
 }
 
 // Tenths of a second as seconds, at the right end of 12 places.
@@ -55,20 +52,12 @@ fn put_seconds(t: Text, tenths: u32) -> Text
     digits::put_right(t, digits::put_tenths(digits::empty(), tenths), 12)
 }
 
-fn put_on(t: Text, flag: bool) -> Text
-    ensures { λ r. ⌜ said r ≡ cut (said t ++ Rows.onText flag) ⌝ }
-{
-    if flag {
-        return digits::put_all(t, b"  on");
-    }
-    digits::put_all(t, b" off")
-}
-
 fn put_setting(t: Text, s: Setting) -> Text
     ensures { λ r. ⌜ said r ≡ cut (said t ++ settingText s) ⌝ }
 {
     let timer = s.timer;
-    put_seconds(put_on(t, s.enabled), timer.0)
+    let on = digits::put_either(t, s.enabled, b"  on", b" off");
+    put_seconds(on, timer.0)
 }
 
 fn put_record(t: Text, r: Record) -> Text
@@ -82,11 +71,11 @@ fn put_record(t: Text, r: Record) -> Text
 }
 
 // A timer runs if it is enabled and names a condition below the present one.
-fn runs(current: Setting, place: usize, d: Drive) -> bool
-    ensures { λ r. ⌜ r ≡ Rows.runs current place d ⌝ }
+fn is_running(current: Setting, place: usize, d: Drive) -> bool
+    ensures { λ r. ⌜ r ≡ isRunning current place d ⌝ }
 {
     let power = d.power;
-    let below = drive::depth_of(power) <= place;
+    let below = conditions::depth_of(power) <= place;
     current.enabled & below
 }
 
@@ -106,7 +95,7 @@ fn put_left(t: Text, current: Setting, place: usize, d: Drive) -> Text
 {
     let timer = current.timer;
     let idle = d.idle;
-    if runs(current, place, d) {
+    if is_running(current, place, d) {
         return put_seconds(digits::put_all(t, b" *"), time_left(timer, idle));
     }
     digits::put_all(t, b"             -")
@@ -115,10 +104,7 @@ fn put_left(t: Text, current: Setting, place: usize, d: Drive) -> Text
 fn mark(present: bool) -> Text
     ensures { λ r. ⌜ said r ≡ cut (Rows.markText present) ⌝ }
 {
-    if present {
-        return digits::phrase(b"> ");
-    }
-    digits::phrase(b"  ")
+    digits::put_either(digits::empty(), present, b"> ", b"  ")
 }
 
 fn label(present: bool, c: Condition) -> Text
@@ -134,8 +120,8 @@ fn record_row(d: Drive, place: usize, r: Record) -> Text
     let current = r.current;
     let recovery = r.recovery;
     let power = d.power;
-    let present = drive::depth_of(power) == place + 1;
-    let settings = put_record(label(present, drive::condition_at(place)), r);
+    let present = conditions::depth_of(power) == place + 1;
+    let settings = put_record(label(present, conditions::condition_at(place)), r);
     let left = put_left(settings, current, place, d);
     digits::put_right(left, digits::put_decimal(digits::empty(), recovery.0), 13)
 }
@@ -144,7 +130,7 @@ fn active_row(d: Drive) -> Text
     ensures { λ r. ⌜ said r ≡ cut (activeRow d) ⌝ }
 {
     let power = d.power;
-    let present = drive::depth_of(power) == 0;
+    let present = conditions::depth_of(power) == 0;
     digits::put_all(mark(present), b"Active")
 }
 
@@ -162,13 +148,10 @@ fn row(d: Drive, k: usize) -> Text
 
 // ---- the lines below the rows
 
-fn put_flag(t: Text, flag: bool) -> Text
-    ensures { λ r. ⌜ said r ≡ cut (said t ++ Below.flagText flag) ⌝ }
+fn flag_line(name: &[u8], flag: bool) -> Text
+    ensures { λ r. ⌜ said r ≡ cut (now (name .entry) ++ Below.flagText flag) ⌝ }
 {
-    if flag {
-        return digits::put_all(t, b"yes");
-    }
-    digits::put_all(t, b"no")
+    digits::put_either(digits::phrase(name), flag, b"yes", b"no")
 }
 
 fn idle_line(u: Unit) -> Text
@@ -195,8 +178,8 @@ fn mark_line(u: Unit, k: usize) -> Text
 {
     let out = u.out;
     match k {
-        0 => put_flag(digits::phrase(b"stopped      "), u.stopped),
-        1 => put_flag(digits::phrase(b"unsaved      "), u.unsaved),
+        0 => flag_line(b"stopped      ", u.stopped),
+        1 => flag_line(b"unsaved      ", u.unsaved),
         2 => idle_line(u),
         _ => out_line(out),
     }
@@ -224,21 +207,13 @@ fn put_stage(t: Text, stage: Stage) -> Text
     }
 }
 
-fn put_immed(t: Text, flag: bool) -> Text
-    ensures { λ r. ⌜ said r ≡ cut (said t ++ Below.immedText flag) ⌝ }
-{
-    if flag {
-        return digits::put_all(t, b", IMMED");
-    }
-    t
-}
-
 fn put_request(t: Text, q: Request) -> Text
     ensures { λ r. ⌜ said r ≡ cut (said t ++ requestText q) ⌝ }
 {
     let target = q.target;
     let stage = q.stage;
-    put_stage(put_immed(put_target(t, target), q.immed), stage)
+    let immed = digits::put_either(put_target(t, target), q.immed, b", IMMED", b"");
+    put_stage(immed, stage)
 }
 
 fn put_slot(t: Text, s: Slot) -> Text
@@ -277,12 +252,10 @@ fn host_line(u: Unit, host: u32) -> Text
 fn head_line(k: usize) -> Text
     ensures { λ r. ⌜ said r ≡ cut (Table.headAt k) ⌝ }
 {
-    if k == 0 {
-        return digits::phrase(
-            b"  condition supp save chng       default s         saved s       current s   time left s  recovery ms",
-        );
-    }
-    digits::phrase(
+    digits::put_either(
+        digits::empty(),
+        k == 0,
+        b"  condition supp save chng       default s         saved s       current s   time left s  recovery ms",
         b"> present ---------------------------------------------------------------- * runs -------------------",
     )
 }

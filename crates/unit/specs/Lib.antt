@@ -1,3 +1,1 @@
 pub mod Units
-pub mod Refusals
-pub mod Calls

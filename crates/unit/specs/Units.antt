@@ -5,16 +5,13 @@ use Prim.Native.Nat.{ℕ}
 use lib.Dec.{eqb}
 use lib.ListN.{length, getD, set, replicate}
 use Rattle.rows.specs.Rows.{everyAt}
-use Rattle.drive.specs.Conditions.{placeOf}
 use Rattle.drive.specs.Records.{largest, unsupported, driveWellFormed}
-use Rattle.drive.specs.Drives.{restarted}
-use Rattle.drive.specs.declared.Condition.{Condition}
+use Rattle.conditions.specs.declared.Power.{Power}
+use Rattle.drive.specs.Drives.{entered, restarted, made, makerOf}
 use Rattle.drive.specs.declared.Record.{Record}
 use Rattle.drive.specs.declared.Drive.{Drive}
-use Rattle.unit.specs.declared.Target.{Target}
-use Rattle.unit.specs.declared.Target.the-variants.{Stop, Start, GoTo}
-use Rattle.unit.specs.declared.Stage.{Stage}
-use Rattle.unit.specs.declared.Stage.the-variants.{Straight, Flushing}
+use Rattle.drive.specs.declared.Made.{Made}
+use Rattle.requests.specs.Requests.{requestWellFormed}
 use Rattle.unit.specs.declared.Slot.{Slot}
 use Rattle.unit.specs.declared.Slot.the-variants.{Empty, Waiting}
 use Rattle.unit.specs.declared.HostSlot.{HostSlot}
@@ -60,16 +57,9 @@ isOutFor host (OutFor h) = eqb h host
 
 -- ---- well formed
 
-abbrev pub supportedIn : List Record → Condition → Bool
-supportedIn rs c = (getD rs (placeOf c) unsupported) .supported
-
--- "a waiting request is one START STOP accepts, with its count of answered flushes as progress (0 if it sends none)": a stop flushes or not, a
--- start never does, a go to needs its condition supported. `Straight` carries no count.
-abbrev pub requestWellFormed : List Record → Target → Stage → Bool
-requestWellFormed rs Stop stage = true
-requestWellFormed rs Start Straight = true
-requestWellFormed rs Start (Flushing n) = false
-requestWellFormed rs (GoTo c) stage = supportedIn rs c
+-- The largest timer and the largest idle count of a unit.
+abbrev pub largestOf : Unit → ℕ
+largestOf u = largest
 
 abbrev pub slotWellFormed : List Record → Slot → Bool
 slotWellFormed rs Empty = true
@@ -91,7 +81,7 @@ outWellFormed slots (OutFor host) = isWaiting (slotOf slots host)
 -- "A record is well formed when:".
 unfoldable pub wellFormed : Unit → Bool
 wellFormed u =
-    driveWellFormed largest (u .drive)
+    driveWellFormed (largestOf u) (u .drive)
     && hostsWellFormed (u .drive .records) (u .slots) (u .held)
     && outWellFormed (u .slots) (u .out)
 
@@ -103,6 +93,9 @@ unitOf d stopped unsaved slots helds out =
 
 abbrev pub withDrive : Drive → Unit → Unit
 withDrive d u = unitOf d (u .stopped) (u .unsaved) (u .slots) (u .held) (u .out)
+
+abbrev pub withPower : Power → Unit → Unit
+withPower p u = withDrive (entered p (u .drive)) u
 
 abbrev pub withMarks : Bool → Bool → Unit → Unit
 withMarks stopped unsaved u = unitOf (u .drive) stopped unsaved (u .slots) (u .held) (u .out)
@@ -123,3 +116,13 @@ withoutHosts u = unitOf (u .drive) (u .stopped) (u .unsaved) (replicate 4 emptyS
 -- "sets the idle count to 0".
 abbrev pub rested : Unit → Unit
 rested u = withDrive (restarted (u .drive)) u
+
+-- ---- a new unit
+
+-- "At manufacture current, saved and default agree": Active, idle count 0, no mark, nothing waiting, held or out.
+abbrev pub madeUnit : List Made → Unit
+madeUnit ms = unitOf (made ms) false false (replicate 4 emptySlot) (replicate 4 noneHeld) NoneOut
+
+-- A unit that supports nothing.
+abbrev pub blank : Unit
+blank = madeUnit (replicate 5 (makerOf unsupported))

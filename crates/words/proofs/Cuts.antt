@@ -9,7 +9,7 @@ use native.Mathlib.Omega.{arith}
 use borrow.Author.Tests.{eqb-true}
 use lib.ListN.{length, getD, take, drop}
 use lib.Seq.{drop-drop, getD-drop}
-use Rattle.words.specs.Words.{isBlank, isComment, pieces, nonempty, words, blanks, letters}
+use Rattle.words.specs.Words.{isBlank, isComment, pieces, nonempty, words, blanks, wordLength}
 use Rattle.words.proofs.Scans.{gap, word, scan-within}
 
 -- ---- the three kinds of bytes
@@ -50,35 +50,37 @@ skip (b ∷ l) = step (kind b) (skip l)
     step (letter e f) rest = rw (f, pieces, e, f)
 
 -- the first piece and those behind it
-first-piece : (l : List ℕ) → (ps : List (List ℕ)) × (pieces l ≡ take (letters l) l ∷ ps) × (nonempty ps ≡ words (drop (letters l) l))
-unfolding words pieces nonempty letters
+abbrev FirstPiece : List ℕ → Type 0
+FirstPiece l = (ps : List (List ℕ)) × (pieces l ≡ take (wordLength l) l ∷ ps) × (nonempty ps ≡ words (drop (wordLength l) l))
+
+first-piece : (l : List ℕ) → FirstPiece l
+unfolding words pieces nonempty wordLength
 first-piece [] = ([], refl, refl)
 first-piece (b ∷ l) = step (kind b) (first-piece l)
   where
-    step : Kind b → (ps : List (List ℕ)) × (pieces l ≡ take (letters l) l ∷ ps) × (nonempty ps ≡ words (drop (letters l) l))
-        → (ps : List (List ℕ)) × (pieces (b ∷ l) ≡ take (letters (b ∷ l)) (b ∷ l) ∷ ps) × (nonempty ps ≡ words (drop (letters (b ∷ l)) (b ∷ l)))
+    step : Kind b → FirstPiece l → FirstPiece (b ∷ l)
     step (comment e f) rest = ([], rw (e, f), rw (e, f, pieces, e))
     step (blank e f) rest = (pieces l, rw (e, f), rw (e, f, pieces, e, f))
     step (letter e f) rest = (rest .0, rw (e, f, rest .1), rw (e, f) (rest .2))
 
-no-word : (l : List ℕ) → blanks l ≡ 0 → letters l ≡ 0 → words l ≡ []
-unfolding words pieces nonempty blanks letters
+no-word : (l : List ℕ) → blanks l ≡ 0 → wordLength l ≡ 0 → words l ≡ []
+unfolding words pieces nonempty blanks wordLength
 no-word [] h k = refl
 no-word (b ∷ l) h k = step (kind b)
   where
     step : Kind b → words (b ∷ l) ≡ []
     step (comment e f) = rw e
     step (blank e f) = let z : suc (blanks l) ≡ 0 = rw f at h in absurd (omega arith)
-    step (letter e f) = let z : suc (letters l) ≡ 0 = rw (e, f) at k in absurd (omega arith)
+    step (letter e f) = let z : suc (wordLength l) ≡ 0 = rw (e, f) at k in absurd (omega arith)
 
-a-word : (l : List ℕ) (n : ℕ) → letters l ≡ suc n → words l ≡ take (letters l) l ∷ words (drop (letters l) l)
-unfolding words nonempty letters
+a-word : (l : List ℕ) (n : ℕ) → wordLength l ≡ suc n → words l ≡ take (wordLength l) l ∷ words (drop (wordLength l) l)
+unfolding words nonempty wordLength
 a-word [] n e = absurd (omega arith)
 a-word (b ∷ l) n e = let p = first-piece (b ∷ l) in rw (p .1, ← p .2, e)
 
 -- ---- the next word from a place on
 
-module _ (l : List ℕ) (from at len : ℕ) (e : at ≡ from + blanks (drop from l)) (k : len ≡ letters (drop at l)) where
+module _ (l : List ℕ) (from at len : ℕ) (e : at ≡ from + blanks (drop from l)) (k : len ≡ wordLength (drop at l)) where
   -- a word that starts within the text ends within it
   pub next-within : from ≤ length l → at + len ≤ length l
   next-within h =

@@ -11,7 +11,10 @@ use lib.Dec.{eqb}
 use lib.ListN.{length, getD, drop, drop-of-length-le, length-drop}
 use lib.Seq.{drop-cons}
 use Rattle.words.specs.Lines.{beforeFeed}
-use Rattle.words.specs.Words.{isBlank, isComment, blanks, letters}
+use Rattle.words.specs.Scans.{stopsAt, bytesBefore}
+use Rattle.words.specs.Words.{isBlank, isComment, blanks, wordLength}
+use Rattle.words.specs.declared.Seek.{Seek}
+use Rattle.words.specs.declared.Seek.the-variants.{LineEnd, WordStart, WordEnd}
 
 pub record Scan (f : List ℕ → ℕ) (stops : ℕ → Bool) : Type 0 where
   pub none : f [] ≡ 0
@@ -21,8 +24,8 @@ pub feed : Scan beforeFeed (λ b. eqb b (code "\n"))
 unfolding beforeFeed
 feed = record { none = refl; more = λ b bs. refl }
 
-pub word : Scan letters (λ b. isBlank b || isComment b)
-unfolding letters
+pub word : Scan wordLength (λ b. isBlank b || isComment b)
+unfolding wordLength
 word = record { none = refl; more = λ b bs. refl }
 
 swapped : {A : Type 0} (t : Bool) (x y : A) → cond t x y ≡ cond (not t) y x
@@ -32,6 +35,11 @@ swapped false x y = refl
 pub gap : Scan blanks (λ b. not (isBlank b))
 unfolding blanks
 gap = record { none = refl; more = λ b bs. swapped (isBlank b) (suc (blanks bs)) 0 }
+
+pub seeks : (seek : Seek) → Scan (bytesBefore seek) (stopsAt seek)
+seeks LineEnd = feed
+seeks WordStart = gap
+seeks WordEnd = word
 
 module _ {f : List ℕ → ℕ} {stops : ℕ → Bool} (s : Scan f stops) where
   pub scan-end : (l : List ℕ) (i : ℕ) → length l ≤ i → i ≡ i + f (drop i l)

@@ -10,9 +10,9 @@ use lib.Dec.{leb}
 use lib.ListN.{length, getD, drop, drop-of-length-le}
 use lib.Pow.{pow-add, pow-mono}
 use lib.Seq.{drop-cons}
-use Rattle.words.specs.Numbers.{between, digitOf, areDigits, valueAfter, valueOf, number, noNumber, isNumber, numberOf}
+use Rattle.words.specs.Numbers.{isBetween, digitOf, areDigits, valueAfter, valueOf, number, noNumber, isNumber, wordNumber}
 
-pub in-range : (first last b : ℕ) → between first last b ≡ true → (first ≤ b) × (b ≤ last)
+pub in-range : (first last b : ℕ) → isBetween first last b ≡ true → (first ≤ b) × (b ≤ last)
 in-range first last b e = let both = and-eq-true-iff (leb first b) (leb b last) .0 e in (leb-true _ _ (both .0), leb-true _ _ (both .1))
 
 -- ---- the digits that are left
@@ -46,29 +46,29 @@ below-all value i h k = let most = pow-mono {i = 4 * i} {j = 32} (omega arith) i
 -- ---- what a word spells
 
 module _ (top : ℕ) (w : List ℕ) where
-  pub not-length : between 1 8 (length w) ≡ false → numberOf top w ≡ noNumber
-  unfolding numberOf isNumber
+  pub not-length : isBetween 1 8 (length w) ≡ false → wordNumber top w ≡ noNumber
+  unfolding wordNumber isNumber
   not-length e = rw e
 
-  pub not-digits : areDigits w ≡ false → numberOf top w ≡ noNumber
-  unfolding numberOf isNumber
+  pub not-digits : areDigits w ≡ false → wordNumber top w ≡ noNumber
+  unfolding wordNumber isNumber
   not-digits e = rw (e, and-false)
 
-  pub too-large : top < valueOf w → numberOf top w ≡ noNumber
-  unfolding numberOf isNumber
+  pub too-large : top < valueOf w → wordNumber top w ≡ noNumber
+  unfolding wordNumber isNumber
   too-large h = rw (lt-leb _ _ h, and-false)
 
-  pub spelled : between 1 8 (length w) ≡ true → areDigits w ≡ true → valueOf w ≤ top → numberOf top w ≡ number (valueOf w)
-  unfolding numberOf isNumber
+  pub spelled : isBetween 1 8 (length w) ≡ true → areDigits w ≡ true → valueOf w ≤ top → wordNumber top w ≡ number (valueOf w)
+  unfolding wordNumber isNumber
   spelled e f h = rw (e, f, le-leb _ _ h)
 
   -- no number that is read is above the top
-  pub at-most : numberOf top w .value ≤ top
-  unfolding numberOf isNumber
+  pub at-most : wordNumber top w .value ≤ top
+  unfolding wordNumber isNumber
   at-most = on (isNumber top w) refl
     where
       on : (b : Bool) → isNumber top w ≡ b → cond b (number (valueOf w)) noNumber .value ≤ top
       on true e =
-          let both = and-eq-true-iff (between 1 8 (length w) && areDigits w) (leb (valueOf w) top) .0 e in
+          let both = and-eq-true-iff (isBetween 1 8 (length w) && areDigits w) (leb (valueOf w) top) .0 e in
           leb-true (valueOf w) top (both .1)
       on false e = omega arith

@@ -4,6 +4,7 @@ use mathlib.Core.List.{List, [], _∷_}
 use Prim.Native.Char.{code}
 use Prim.Native.Nat.{ℕ, suc}
 use lib.Dec.{eqb}
+use lib.ListN.{take}
 
 -- "A line ends with LF": the number of bytes before it, or of all where there is none.
 unfoldable pub beforeFeed : List ℕ → ℕ
@@ -15,3 +16,7 @@ unfoldable pub beforeReturn : List ℕ → ℕ
 beforeReturn [] = 0
 beforeReturn (b ∷ []) = cond (eqb b (code "\r")) 0 1
 beforeReturn (b ∷ c ∷ bs) = suc (beforeReturn (c ∷ bs))
+
+-- A line's bytes without it.
+abbrev pub lineIn : List ℕ → List ℕ
+lineIn text = take (beforeReturn text) text

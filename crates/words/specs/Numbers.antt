@@ -11,15 +11,15 @@ use Rattle.words.specs.declared.Flag.{Flag}
 use Rattle.words.specs.declared.Number.{Number}
 
 -- A byte from the first letter to the last.
-abbrev pub between : ℕ → ℕ → ℕ → Bool
-between first last b = leb first b && leb b last
+abbrev pub isBetween : ℕ → ℕ → ℕ → Bool
+isBetween first last b = leb first b && leb b last
 
 -- "only hex digits take either case": what a digit stands for; 16 for a byte that is no digit.
 abbrev pub digitOf : ℕ → ℕ
 digitOf b =
-    cond (between (code "0") (code "9") b) (b - code "0")
-    (cond (between (code "A") (code "F") b) (b - code "A" + 10)
-    (cond (between (code "a") (code "f") b) (b - code "a" + 10) 16))
+    cond (isBetween (code "0") (code "9") b) (b - code "0")
+    (cond (isBetween (code "A") (code "F") b) (b - code "A" + 10)
+    (cond (isBetween (code "a") (code "f") b) (b - code "a" + 10) 16))
 
 abbrev pub isDigit : ℕ → Bool
 isDigit b = ltb (digitOf b) 16
@@ -44,14 +44,14 @@ noNumber = record { good = false; value = 0 }
 
 -- "input has 1 to 8 digits"; "a number out of its range" is none.
 unfoldable pub isNumber : ℕ → List ℕ → Bool
-isNumber top w = between 1 8 (length w) && areDigits w && leb (valueOf w) top
+isNumber top w = isBetween 1 8 (length w) && areDigits w && leb (valueOf w) top
 
-unfoldable pub numberOf : ℕ → List ℕ → Number
-numberOf top w = cond (isNumber top w) (number (valueOf w)) noNumber
+unfoldable pub wordNumber : ℕ → List ℕ → Number
+wordNumber top w = cond (isNumber top w) (number (valueOf w)) noNumber
 
 -- "A flag is exactly `0` or `1`."
-abbrev pub flagAt : ℕ → Flag
-flagAt place = record { good = ltb place 2; value = eqb place 1 }
+abbrev pub flagFrom : ℕ → Flag
+flagFrom place = record { good = ltb place 2; value = eqb place 1 }
 
-unfoldable pub flagOf : List ℕ → Flag
-flagOf w = flagAt (placeIn w (codes "0" ∷ codes "1" ∷ []))
+unfoldable pub wordFlag : List ℕ → Flag
+wordFlag w = flagFrom (placeIn w (codes "0" ∷ codes "1" ∷ []))

@@ -50,9 +50,9 @@ unfoldable pub blanks : List ℕ → ℕ
 blanks [] = 0
 blanks (b ∷ bs) = cond (isBlank b) (suc (blanks bs)) 0
 
-unfoldable pub letters : List ℕ → ℕ
-letters [] = 0
-letters (b ∷ bs) = cond (isBlank b || isComment b) 0 (suc (letters bs))
+unfoldable pub wordLength : List ℕ → ℕ
+wordLength [] = 0
+wordLength (b ∷ bs) = cond (isBlank b || isComment b) 0 (suc (wordLength bs))
 
 -- ---- names
 

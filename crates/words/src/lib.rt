@@ -4,9 +4,10 @@ ghost use Prim.Native.Nat.{_+_, _≤_, min};
 ghost use lib.ListN.{drop, length, take};
 ghost use mathlib.Core.List.{_++_};
 ghost use Rattle.words.specs.Lines.{beforeFeed, beforeReturn};
-ghost use Rattle.words.specs.Numbers.{digitOf, numberOf, flagOf};
+ghost use Rattle.words.specs.Numbers.{digitOf, wordNumber, wordFlag};
+ghost use Rattle.words.specs.Scans.{stopsAt, bytesBefore};
 ghost use Rattle.words.specs.Words;
-ghost use Rattle.words.specs.Words.{isBlank, blanks, letters, words, wordAt, bytesAt, placeIn};
+ghost use Rattle.words.specs.Words.{isBlank, blanks, wordLength, words, wordAt, bytesAt, placeIn};
 
 // A word's place in its line and its length; of a word that is not there the length is 0.
 pub struct Word {
@@ -30,18 +31,11 @@ pub struct Flag {
     pub value: bool,
 }
 
-// The place of the next LF from `from` on, or the end.
-pub fn line_end(text: &[u8], from: usize) -> usize
-    ensures { λ r. ⌜ r ≡ from + beforeFeed (drop from (now (text .entry))) ⌝ }
-{
-    let mut i = from;
-    while i < text.len() {
-        if text[i] == b'\n' {
-            return i;
-        }
-        i += 1;
-    }
-    i
+// What a scan of a text looks for: an LF; a byte that is no blank; a byte that belongs to no word.
+pub enum Seek {
+    LineEnd,
+    WordStart,
+    WordEnd,
 }
 
 // The length of a line without the CR at its end.
@@ -81,12 +75,24 @@ fn is_blank(b: u8) -> bool
     (b == b' ') | (b == b'\t')
 }
 
-fn past_blanks(line: &[u8], from: usize) -> usize
-    ensures { λ r. ⌜ r ≡ from + blanks (drop from (now (line .entry))) ⌝ }
+// Whether a scan ends at this byte.
+fn stops(seek: Seek, b: u8) -> bool
+    ensures { λ r. ⌜ r ≡ stopsAt seek b ⌝ }
+{
+    match seek {
+        Seek::LineEnd => b == b'\n',
+        Seek::WordStart => !is_blank(b),
+        Seek::WordEnd => is_blank(b) | (b == b'#'),
+    }
+}
+
+// The place from `from` on of what is looked for, or the end.
+fn scan(text: &[u8], from: usize, seek: Seek) -> usize
+    ensures { λ r. ⌜ r ≡ from + bytesBefore seek (drop from (now (text .entry))) ⌝ }
 {
     let mut i = from;
-    while i < line.len() {
-        if !is_blank(line[i]) {
+    while i < text.len() {
+        if stops(seek, text[i]) {
             return i;
         }
         i += 1;
@@ -94,26 +100,19 @@ fn past_blanks(line: &[u8], from: usize) -> usize
     i
 }
 
-fn word_end(line: &[u8], from: usize) -> usize
-    ensures { λ r. ⌜ r ≡ from + letters (drop from (now (line .entry))) ⌝ }
+// The place of the next LF from `from` on, or the end.
+pub fn line_end(text: &[u8], from: usize) -> usize
+    ensures { λ r. ⌜ r ≡ from + beforeFeed (drop from (now (text .entry))) ⌝ }
 {
-    let mut i = from;
-    while i < line.len() {
-        let b = line[i];
-        if is_blank(b) | (b == b'#') {
-            return i;
-        }
-        i += 1;
-    }
-    i
+    scan(text, from, Seek::LineEnd)
 }
 
 // The first word from `from` on.
 fn next_word(line: &[u8], from: usize) -> Word
-    ensures { λ r. ⌜ (r .at ≡ from + blanks (drop from (now (line .entry)))) × (r .len ≡ letters (drop (r .at) (now (line .entry)))) ⌝ }
+    ensures { λ r. ⌜ (r .at ≡ from + blanks (drop from (now (line .entry)))) × (r .len ≡ wordLength (drop (r .at) (now (line .entry)))) ⌝ }
 {
-    let at = past_blanks(line, from);
-    let end = word_end(line, at);
+    let at = scan(line, from, Seek::WordStart);
+    let end = scan(line, at, Seek::WordEnd);
     Word { at, len: end - at }
 }
 
@@ -210,7 +209,7 @@ fn digit(b: u8) -> u32
 }
 
 fn hex(w: &[u8], top: u32) -> Number
-    ensures { λ r. ⌜ r ≡ numberOf top (now (w .entry)) ⌝ }
+    ensures { λ r. ⌜ r ≡ wordNumber top (now (w .entry)) ⌝ }
 {
     let none = Number {
         good: false,
@@ -241,7 +240,7 @@ fn hex(w: &[u8], top: u32) -> Number
 
 // The number that the word of that number spells, if it is at most `top`.
 pub fn number_at(line: &[u8], k: usize, top: u32) -> Number
-    ensures { λ r. ⌜ r ≡ numberOf top (wordAt k (now (line .entry))) ⌝ }
+    ensures { λ r. ⌜ r ≡ wordNumber top (wordAt k (now (line .entry))) ⌝ }
 {
     let w = word_at(line, k);
     let at = w.at;
@@ -251,7 +250,7 @@ pub fn number_at(line: &[u8], k: usize, top: u32) -> Number
 
 // The byte that it spells.
 pub fn byte_at(line: &[u8], k: usize) -> Byte
-    ensures { λ r. ⌜ (r .good ≡ numberOf 0xFF (wordAt k (now (line .entry))) .good) × (r .value ≡ numberOf 0xFF (wordAt k (now (line .entry))) .value) ⌝ }
+    ensures { λ r. ⌜ (r .good ≡ wordNumber 0xFF (wordAt k (now (line .entry))) .good) × (r .value ≡ wordNumber 0xFF (wordAt k (now (line .entry))) .value) ⌝ }
 {
     let n = number_at(line, k, 0xFF);
     Byte {
@@ -261,7 +260,7 @@ pub fn byte_at(line: &[u8], k: usize) -> Byte
 }
 
 pub fn flag_at(line: &[u8], k: usize) -> Flag
-    ensures { λ r. ⌜ r ≡ flagOf (wordAt k (now (line .entry))) ⌝ }
+    ensures { λ r. ⌜ r ≡ wordFlag (wordAt k (now (line .entry))) ⌝ }
 {
     let place = name_at(line, k, b"0 1");
     Flag {

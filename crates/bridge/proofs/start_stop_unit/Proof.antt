@@ -1,14 +1,5 @@
--- The rows in two runs, and what the CDB wants read once.
-use mathlib.Core.Bool.{not}
-use mathlib.Core.List.{_∷_}
-use lib.Dec.{eqb}
-use lib.ListN.{length}
-use Rattle.unit.specs.Refusals.{_gives_}
-use Rattle.unit.specs.Calls.{hostRows}
-use Rattle.unit.specs.declared.Refusal.the-variants.{BadLength}
-use Rattle.unit.proofs.Verdicts.{lowest-append}
-use denote.Ref.{now}
-use Rattle.bridge.specs.Cdb.{isListed}
+-- The verdict is the definition's, and what the CDB wants is read once.
+use Rattle.cdb.specs.Cdb.{isListed}
 use Rattle.bridge.specs.Bridge.{startStopOutcome}
 use borrow.Author.Needs.{needs}
 use Rattle.bridge.proofs.start_stop_unit.Statement.{statement}
@@ -26,14 +17,14 @@ is-waiting-requires c κs = search needs
 read-wanted-requires : tie.Need-read-wanted-requires
 read-wanted-requires c κs = search needs
 
-byte-at-requires : tie.Need-byte-at-requires
-byte-at-requires c κs = search needs
-
 is-listed-requires : tie.Need-is-listed-requires
 is-listed-requires c κs = search needs
 
-cdb-verdict-requires : tie.Need-cdb-verdict-requires
-cdb-verdict-requires c κs = search needs
+is-out-requires : tie.Need-is-out-requires
+is-out-requires c κs = search needs
+
+byte-at-requires : tie.Need-byte-at-requires
+byte-at-requires c κs = search needs
 
 start-stop-verdict-requires : tie.Need-start-stop-verdict-requires
 start-stop-verdict-requires c κs = search needs
@@ -44,18 +35,19 @@ accept-requires c κs = search needs
 returns : tie.Need-returns
 unfolding startStopOutcome isListed
 returns c =
-    let start = c .before .before .before .before .before .before .before .before .before .before .before .before .args in
+    let asked = c .before .before in
+    let read = asked .before .before .before in
+    let slot = read .before .before in
     rw (
       c .accept .ensures,
       c .before .start-stop-verdict .ensures,
-      c .before .before .cdb-verdict .ensures,
-      c .before .before .before .is-listed .ensures,
-      c .before .before .before .before .byte-at .ensures,
-      c .before .before .before .before .before .read-wanted .ensures,
-      c .before .before .before .before .before .before .is-waiting .ensures,
-      c .before .before .before .before .before .before .before .slot-of .ensures,
-      c .before .before .before .before .before .before .before .before .before .before .unit-ok .ensures,
-      lowest-append ((not (eqb (length (now (start .cdb))) 6) gives BadLength) ∷ hostRows (start .u) (start .host)) _,
+      asked .byte-at .ensures,
+      asked .before .is-out .ensures,
+      asked .before .before .is-listed .ensures,
+      read .read-wanted .ensures,
+      read .before .is-waiting .ensures,
+      slot .slot-of .ensures,
+      slot .before .before .before .unit-ok .ensures,
     )
 
 pub start-stop-unit-spec : {M : Type 1} → statement M
@@ -66,9 +58,9 @@ start-stop-unit-spec =
     slot-of-requires
     is-waiting-requires
     read-wanted-requires
-    byte-at-requires
     is-listed-requires
-    cdb-verdict-requires
+    is-out-requires
+    byte-at-requires
     start-stop-verdict-requires
     accept-requires
     returns)

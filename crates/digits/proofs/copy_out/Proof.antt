@@ -27,28 +27,29 @@ part-copy-in-start c = search needs
 part-copy-in-end : tie.Need-part-copy-in-end
 part-copy-in-end c = let a = c .before .before .before .before in omega (arith, said-within (a .before .before .args .t))
 
-fits : (a : tie.Then1) → let start = a .before .before .before .before .args in
+with-room : (a : tie.Then1) → let start = a .before .before .before .before .args in
     start .at + length (said (start .t)) ≤ length (now (start .out))
-fits a = rw (← a .before .before .count .ensures) (leb-true _ _ (sym (a .before .room .ensures) ∙ a .if1 .taken))
+with-room a = rw (← a .before .before .count .ensures) (leb-true _ _ (sym (a .before .room .ensures) ∙ a .if1 .taken))
 
 copy-in-requires : tie.Need-copy-in-requires
 copy-in-requires c κs =
     let a = c .before .before .before .before in
-    rw (a .before .before .count .ensures, sub-zero, take-said) (fits a)
+    rw (a .before .before .count .ensures, sub-zero, take-said) (with-room a)
 
 add-result : tie.Need-add-result
-add-result c = omega (arith, fits (c .before .before .before .before .before .before .before))
+add-result c = let copied = c .before .before in omega (arith, with-room (copied .before .before .before .before .before))
 
 same-length : tie.Need-same-length
 same-length c = search needs
 
 returns : tie.Need-returns
 returns c =
-    let a = c .before .before .before .before .before .before .before in
+    let copied = c .before .before in
+    let a = copied .before .before .before .before .before in
     let start = a .before .before .before .before .args in
     let n = a .before .before .count .ensures in
-    let in-place = goes-in (now (start .out)) (start .at) (said (start .t)) (fits a) in
-    (c .before .before .copy-in .ensures ∙ rw (n, sub-zero, take-said) (in-place .0), rw n (in-place .1))
+    let in-place = goes-in (now (start .out)) (start .at) (said (start .t)) (with-room a) in
+    (copied .copy-in .ensures ∙ rw (n, sub-zero, take-said) (in-place .0), rw n (in-place .1))
 
 returns-2 : tie.Need-returns-2
 returns-2 c =

@@ -40,18 +40,18 @@ mul-room c = search needs
 room-requires : tie.Need-room-requires
 room-requires c κs = tt
 
-fits : (a : tie.Then2) → let start = a .before .before .before .before .before .args in
+with-room : (a : tie.Then2) → let start = a .before .before .before .before .before .args in
     start .at + 2 * length (now (start .bytes)) ≤ length (now (start .out))
-fits a = leb-true _ _ (sym (a .before .room .ensures) ∙ a .if2 .taken)
+with-room a = leb-true _ _ (sym (a .before .room .ensures) ∙ a .if2 .taken)
 
 fill-requires : tie.Need-fill-requires
-fill-requires c κs = fits (c .before)
+fill-requires c κs = with-room (c .before)
 
 mul-result : tie.Need-mul-result
 mul-result c = search needs
 
 add-result : tie.Need-add-result
-add-result c = omega (arith, fits (c .before .before .before .before))
+add-result c = omega (arith, with-room (c .before .before .before .before))
 
 same-length-2 : tie.Need-same-length-2
 same-length-2 c = search needs
@@ -62,7 +62,7 @@ returns-2 c =
     let start = a .before .before .before .before .before .args in
     let bytes = now (start .bytes) in
     let n = pairs-length bytes in
-    let in-place = goes-in (now (start .out)) (start .at) (pairs bytes) (omega (arith, fits a)) in
+    let in-place = goes-in (now (start .out)) (start .at) (pairs bytes) (omega (arith, with-room a)) in
     rw (bytes-some bytes (a .before .before .if1 .left)) (c .before .before .fill .ensures ∙ in-place .0, rw n at (in-place .1))
 
 returns-3 : tie.Need-returns-3

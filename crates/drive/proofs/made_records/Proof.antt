@@ -47,7 +47,8 @@ loop-again : tie.Need-loop-again Inv-loop μ-loop
 loop-again c =
     let a = c .before .before .before in
     let made = a .before .before .before .args .t1 in
-    (omega arith, rw (c .made-record2 .ensures, a .loop .inv .1) (done-more madeRecord made _ (a .loop .i) _ (sym (a .before .before .before .good .0 .1 .0 .1)) (omega arith)))
+    let five = sym (a .before .before .before .good .0 .1 .0 .1) in
+    (omega arith, rw (c .made-record2 .ensures, a .loop .inv .1) (done-more madeRecord made _ (a .loop .i) _ five (omega arith)))
 
 returns : tie.Need-returns Inv-loop μ-loop
 returns c =

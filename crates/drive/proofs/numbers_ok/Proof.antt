@@ -14,8 +14,11 @@ enabled-ok-requires-3 : tie.Need-enabled-ok-requires-3
 enabled-ok-requires-3 c κs = search needs
 
 returns : tie.Need-returns
-returns c = rw (c .enabled-ok3 .ensures, c .before .enabled-ok2 .ensures, c .before .before .enabled-ok .ensures)
-    (gathered (c .before .before .before .before .before .before .before .before .before .before .args .top .0) (c .before .before .before .before .before .before .before .before .before .before .args .r))
+returns c =
+    let bounds = c .before .before in
+    let looked = bounds .before .before .before .before in
+    let start = looked .before .before .before .before .args in
+    rw (c .enabled-ok3 .ensures, c .before .enabled-ok2 .ensures, bounds .enabled-ok .ensures) (gathered (start .top .0) (start .r))
 
 pub numbers-ok-spec : {M : Type 1} → statement M
 numbers-ok-spec =

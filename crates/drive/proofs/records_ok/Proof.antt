@@ -11,7 +11,8 @@ use Rattle.drive.proofs.records_ok.Statement.{statement}
 use Rattle.drive.proofs.records_ok.Tie as tie
 
 abbrev Inv-loop : tie.InvT-loop
-Inv-loop top records ok₀ i₀ ok i = (i ≤ 5) × ((ok && everyAt (λ at r. recordWellFormed (top .0) r) i (drop i records)) ≡ everyAt (λ at r. recordWellFormed (top .0) r) 0 records)
+Inv-loop top records ok₀ i₀ ok i = (i ≤ 5)
+    × ((ok && everyAt (λ at r. recordWellFormed (top .0) r) i (drop i records)) ≡ everyAt (λ at r. recordWellFormed (top .0) r) 0 records)
 
 abbrev μ-loop : tie.MeasureT-loop
 μ-loop top records ok₀ i₀ ok i = 5 - i
@@ -37,15 +38,19 @@ loop-less c = omega arith
 loop-again : tie.Need-loop-again Inv-loop μ-loop
 loop-again c =
     let a = c .before .before .before in
-    let start = a .before .args in
-    (omega arith, rw (c .record-ok .ensures) (every-more (λ at r. recordWellFormed (start .top .0) r) (start .t2) (a .loop .i) _ (a .loop .ok) (omega arith) ∙ a .loop .inv .1))
+    let start = a .before .args in (
+      omega arith,
+      rw (c .record-ok .ensures)
+          (every-more (λ at r. recordWellFormed (start .top .0) r) (start .t2) (a .loop .i) _ (a .loop .ok) (omega arith) ∙ a .loop .inv .1),
+    )
 
 returns : tie.Need-returns Inv-loop μ-loop
 unfolding recordsWellFormed
 returns c =
     let a = c .before in
     let start = a .before in
-    rw (start .good .1 .0 .1 .0 .1) (sym (every-end (λ at r. recordWellFormed (start .args .top .0) r) (start .args .t2) (a .loop .i) (a .loop .ok) (omega arith)) ∙ a .loop .inv .1)
+    let all = every-end (λ at r. recordWellFormed (start .args .top .0) r) (start .args .t2) (a .loop .i) (a .loop .ok) (omega arith) in
+    rw (start .good .1 .0 .1 .0 .1) (sym all ∙ a .loop .inv .1)
 
 pub records-ok-spec : {M : Type 1} → statement M
 records-ok-spec =

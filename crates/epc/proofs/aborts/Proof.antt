@@ -10,9 +10,6 @@ sub-of-requires c κs = search needs
 named-by-requires : tie.Need-named-by-requires
 named-by-requires c κs = search needs
 
-is-go-to-requires : tie.Need-is-go-to-requires
-is-go-to-requires c κs = search needs
-
 save-requires : tie.Need-save-requires
 save-requires c κs = search needs
 
@@ -22,20 +19,23 @@ look-requires c κs = search needs
 misread-requires : tie.Need-misread-requires
 misread-requires c κs = search needs
 
+is-go-to-requires : tie.Need-is-go-to-requires
+is-go-to-requires c κs = search needs
+
 misnamed-requires : tie.Need-misnamed-requires
 misnamed-requires c κs = search needs
 
 returns : tie.Need-returns
 returns c =
-    let a = c .before .before .before .before in
-    let n = a .before .before .before in
+    let a = c .before .before .before .before .before in
+    let n = a .before .before in
     rw (
       c .before .before .misnamed .ensures,
-      c .before .before .before .misread .ensures,
+      c .before .before .before .is-go-to .ensures,
+      c .before .before .before .before .misread .ensures,
       a .look .ensures .0,
       a .look .ensures .1,
       a .before .save .ensures,
-      a .before .before .is-go-to .ensures,
       n .named-by .ensures,
       n .before .sub-of .ensures,
     ) (together (n .before .before .args .q) (n .before .before .args .records))
@@ -46,9 +46,9 @@ aborts-spec =
     (tie.spec
     sub-of-requires
     named-by-requires
-    is-go-to-requires
     save-requires
     look-requires
     misread-requires
+    is-go-to-requires
     misnamed-requires
     returns)

@@ -8,7 +8,7 @@ use Rattle.epc.proofs.change_all.Statement.{statement}
 use Rattle.epc.proofs.change_all.Tie as tie
 
 abbrev Inv-loop : tie.InvT-loop
-Inv-loop records lba sub n next₀ i₀ next i = (i ≤ 5) × (next ≡ done (changedBy n sub lba) records records i)
+Inv-loop records lba sub n next₀ i₀ next i = (i ≤ 5) × (next ≡ done (changedBy sub n lba) records records i)
 
 abbrev μ-loop : tie.MeasureT-loop
 μ-loop records lba sub n next₀ i₀ next i = 5 - i
@@ -48,8 +48,11 @@ loop-again c =
     let a = c .before .before .before in
     let start = a .before .before .before .args in
     let n = a .before .named-by .result in
-    let sub = a .before .before .sub-of .result in
-    (omega arith, rw (c .change-at .ensures, a .loop .inv .1) (done-more (changedBy n sub (start .q .lba)) (start .t2) (start .t2) (a .loop .i) _ refl (omega arith)))
+    let sub = a .before .before .sub-of .result in (
+      omega arith,
+      rw (c .change-at .ensures, a .loop .inv .1)
+          (done-more (changedBy sub n (start .q .lba)) (start .t2) (start .t2) (a .loop .i) _ refl (omega arith)),
+    )
 
 returns : tie.Need-returns Inv-loop μ-loop
 returns c =
@@ -58,7 +61,7 @@ returns c =
     let n = a .before .named-by .result in
     let sub = a .before .before .sub-of .result in
     rw (a .before .named-by .ensures, a .before .before .sub-of .ensures)
-    at (a .loop .inv .1 ∙ done-all (changedBy n sub (start .q .lba)) (start .t2) (start .t2) (a .loop .i) (omega arith) (omega arith))
+    at (a .loop .inv .1 ∙ done-all (changedBy sub n (start .q .lba)) (start .t2) (start .t2) (a .loop .i) (omega arith) (omega arith))
 
 pub change-all-spec : {M : Type 1} → statement M
 change-all-spec =

@@ -12,12 +12,15 @@ use Rattle.epc.proofs.look.Statement.{statement}
 use Rattle.epc.proofs.look.Tie as tie
 
 abbrev Inv-loop : tie.InvT-loop
-Inv-loop n goes save records some₀ bars₀ i₀ some bars i = (i ≤ 5)
-    × ((some || someAt (selects n) i (drop i records)) ≡ someAt (selects n) 0 records)
-    × ((bars || someAt (selectedBarred n goes save) i (drop i records)) ≡ someAt (selectedBarred n goes save) 0 records)
+Inv-loop sub n save records goes some₀ bars₀ i₀ some bars i = (i ≤ 5)
+    × ((some || someAt (selects sub n) i (drop i records)) ≡ someAt (selects sub n) 0 records)
+    × ((bars || someAt (selectedBarred sub n save) i (drop i records)) ≡ someAt (selectedBarred sub n save) 0 records)
 
 abbrev μ-loop : tie.MeasureT-loop
-μ-loop n goes save records some₀ bars₀ i₀ some bars i = 5 - i
+μ-loop sub n save records goes some₀ bars₀ i₀ some bars i = 5 - i
+
+is-go-to-requires : tie.Need-is-go-to-requires Inv-loop μ-loop
+is-go-to-requires c κs = tt
 
 loop-holds : tie.Need-loop-holds Inv-loop μ-loop
 loop-holds c = (omega arith, refl, refl)
@@ -43,19 +46,19 @@ loop-less c = omega arith
 loop-again : tie.Need-loop-again Inv-loop μ-loop
 loop-again c =
     let a = c .before .before .before .before in
-    let q = a .before .args in (
+    let q = a .before .before .args in (
       omega arith,
-      rw (c .before .selects .ensures) (some-more (selects (q .n)) (q .t4) (a .loop .i) _ (a .loop .some) (omega arith) ∙ a .loop .inv .1),
-      rw (c .barred .ensures, c .before .selects .ensures)
-          (some-more (selectedBarred (q .n) (q .goes) (q .save)) (q .t4) (a .loop .i) _ (a .loop .bars) (omega arith) ∙ a .loop .inv .2),
+      rw (c .before .selects .ensures) (some-more (selects (q .sub) (q .n)) (q .t4) (a .loop .i) _ (a .loop .some) (omega arith) ∙ a .loop .inv .1),
+      rw (c .barred .ensures, a .before .is-go-to .ensures, c .before .selects .ensures)
+          (some-more (selectedBarred (q .sub) (q .n) (q .save)) (q .t4) (a .loop .i) _ (a .loop .bars) (omega arith) ∙ a .loop .inv .2),
     )
 
 returns : tie.Need-returns Inv-loop μ-loop
 returns c =
     let a = c .before in
-    let q = a .before .args in (
-      sym (some-end (selects (q .n)) (q .t4) (a .loop .i) (a .loop .some) (omega arith)) ∙ a .loop .inv .1,
-      sym (some-end (selectedBarred (q .n) (q .goes) (q .save)) (q .t4) (a .loop .i) (a .loop .bars) (omega arith)) ∙ a .loop .inv .2,
+    let q = a .before .before .args in (
+      sym (some-end (selects (q .sub) (q .n)) (q .t4) (a .loop .i) (a .loop .some) (omega arith)) ∙ a .loop .inv .1,
+      sym (some-end (selectedBarred (q .sub) (q .n) (q .save)) (q .t4) (a .loop .i) (a .loop .bars) (omega arith)) ∙ a .loop .inv .2,
     )
 
 pub look-spec : {M : Type 1} → statement M
@@ -64,6 +67,7 @@ look-spec =
     (tie.spec
     Inv-loop
     μ-loop
+    is-go-to-requires
     loop-holds
     mul-r
     array-copy-out-r

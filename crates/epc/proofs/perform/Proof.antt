@@ -29,13 +29,27 @@ returns : tie.Need-returns
 unfolding performed
 returns c =
     let a = c .before .before .before in
-    rw (← a .before .sub-of .ensures, ← a .is-go-to .ensures, c .before .before .if1 .taken, c .go-to .ensures, c .before .named-by .ensures, a .before .before .restart .ensures)
+    rw (
+      ← a .before .sub-of .ensures,
+      ← a .is-go-to .ensures,
+      c .before .before .if1 .taken,
+      c .go-to .ensures,
+      c .before .named-by .ensures,
+      a .before .before .restart .ensures,
+    )
 
 returns-2 : tie.Need-returns-2
 unfolding performed
 returns-2 c =
     let a = c .before .before .before .before in
-    rw (← a .before .sub-of .ensures, ← a .is-go-to .ensures, c .before .before .before .if1 .left, c .with-records .ensures, c .before .change-all .ensures, a .before .before .restart .ensures)
+    rw (
+      ← a .before .sub-of .ensures,
+      ← a .is-go-to .ensures,
+      c .before .before .before .if1 .left,
+      c .with-records .ensures,
+      c .before .change-all .ensures,
+      a .before .before .restart .ensures,
+    )
 
 pub perform-spec : {M : Type 1} → statement M
 perform-spec =

@@ -19,10 +19,10 @@ returns : tie.Need-returns
 returns c = rw (c .before .before .n .given .1, c .place-of .ensures .0)
 
 returns-2 : tie.Need-returns-2
-returns-2 c = search needs
+returns-2 c = rw (c .enum-told .given .1)
 
 returns-3 : tie.Need-returns-3
-returns-3 c = search needs
+returns-3 c = rw (c .enum-told2 .given .1)
 
 pub selects-spec : {M : Type 1} → statement M
 selects-spec =

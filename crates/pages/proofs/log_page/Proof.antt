@@ -5,19 +5,19 @@ use native.Mathlib.Omega.{arith}
 use borrow.Author.Needs.{needs}
 use lib.ListN.{length, take}
 use lib.Seq.{take-all}
-use Rattle.pages.specs.Logs.{descriptors, logWords, logPage}
+use Rattle.pages.specs.Logs.{descriptors, logWords, logBytes}
 use Rattle.pages.proofs.Page.{first-length, page-more}
 use Rattle.pages.proofs.log_page.Statement.{statement}
 use Rattle.pages.proofs.log_page.Tie as tie
 
 abbrev Inv-loop : tie.InvT-loop
-Inv-loop records page₀ i₀ page i = (i ≤ 5) × (page ≡ logPage (take i records))
+Inv-loop records page₀ i₀ page i = (i ≤ 5) × (page ≡ logBytes (take i records))
 
 abbrev μ-loop : tie.MeasureT-loop
 μ-loop records page₀ i₀ page i = 5 - i
 
 loop-holds : tie.Need-loop-holds Inv-loop μ-loop
-unfolding logPage logWords descriptors
+unfolding logBytes logWords descriptors
 loop-holds c = (omega arith, refl)
 
 mul-named-bytes : tie.Need-mul-named-bytes Inv-loop μ-loop
@@ -54,9 +54,13 @@ loop-less c = omega arith
 
 loop-again : tie.Need-loop-again Inv-loop μ-loop
 loop-again c =
-    let a = c .before .before .before .before .before .before .before in
-    let records = a .before .args .t1 in
-    (omega arith, c .before .copy-in .ensures ∙ rw (c .before .before .before .before .named-bytes .ensures, a .loop .inv .1) (page-more records (a .loop .i) _ (omega arith) (omega arith)))
+    let named = c .before .before .before .before in
+    let a = named .before .before .before in
+    let records = a .before .args .t1 in (
+      omega arith,
+      c .before .copy-in .ensures
+          ∙ rw (named .named-bytes .ensures, a .loop .inv .1) (page-more records (a .loop .i) _ (omega arith) (omega arith)),
+    )
 
 returns : tie.Need-returns Inv-loop μ-loop
 returns c =

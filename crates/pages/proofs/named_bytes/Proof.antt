@@ -66,7 +66,16 @@ array-read-t46 c = search needs
 returns : tie.Need-returns
 returns c =
     let a = c .before .before .before .before in
-    rw (c .high2 .ensures, c .before .low2 .ensures, c .before .before .high .ensures, c .before .before .before .low .ensures, a .setting-bytes3 .ensures, a .before .setting-bytes2 .ensures, a .before .before .setting-bytes .ensures, a .before .before .before .flag-word .ensures)
+    rw (
+      c .high2 .ensures,
+      c .before .low2 .ensures,
+      c .before .before .high .ensures,
+      c .before .before .before .low .ensures,
+      a .setting-bytes3 .ensures,
+      a .before .setting-bytes2 .ensures,
+      a .before .before .setting-bytes .ensures,
+      a .before .before .before .flag-word .ensures,
+    )
 
 pub named-bytes-spec : {M : Type 1} → statement M
 named-bytes-spec =

@@ -19,7 +19,14 @@ high-requires-2 : tie.Need-high-requires-2
 high-requires-2 c κs = search needs
 
 returns : tie.Need-returns
-returns c = rw (c .high2 .ensures, c .before .low2 .ensures, c .before .before .high .ensures, c .before .before .before .low .ensures, c .before .before .before .before .flag-at .ensures .0)
+returns c =
+    rw (
+      c .high2 .ensures,
+      c .before .low2 .ensures,
+      c .before .before .high .ensures,
+      c .before .before .before .low .ensures,
+      c .before .before .before .before .flag-at .ensures .0,
+    )
 
 pub setting-bytes-spec : {M : Type 1} → statement M
 setting-bytes-spec =

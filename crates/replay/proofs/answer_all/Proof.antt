@@ -22,9 +22,11 @@ answer-some-requires c κs = tt
 
 loop-less : tie.Need-loop-less Inv-loop μ-loop
 loop-less c =
-    let start = c .before .before .before .before .before .before .before .before .args in
-    let turn = c .before .before .before .before .before .before .loop .turn in
-    let more : turn .run .from < length (now (start .input)) = ltb-true _ _ (and-eq-true-iff _ _ .0 (c .before .before .before .if1 .taken) .0) in
+    let goes = c .before .before .before in
+    let at = goes .before .before .before in
+    let start = at .before .before .args in
+    let both = and-eq-true-iff _ _ .0 (goes .if1 .taken) in
+    let more : at .loop .turn .run .from < length (now (start .input)) = ltb-true _ _ (both .0) in
     omega (arith, c .answer-some .ensures)
 
 loop-again : tie.Need-loop-again Inv-loop μ-loop

@@ -40,14 +40,14 @@ wrong-requires-3 c κs = tt
 enum-told-6 : tie.Need-enum-told-6
 enum-told-6 c = c .match .keys7
 
-show-requires : tie.Need-show-requires
-show-requires c κs = tt
+print-record-requires : tie.Need-print-record-requires
+print-record-requires c κs = tt
 
 enum-told-7 : tie.Need-enum-told-7
 enum-told-7 c = c .match .keys8
 
-table-requires : tie.Need-table-requires
-table-requires c κs = tt
+print-table-requires : tie.Need-print-table-requires
+print-table-requires c κs = tt
 
 returns : tie.Need-returns
 unfolding wroteAll
@@ -82,16 +82,16 @@ returns-6 : tie.Need-returns-6
 returns-6 c = let a = c .before .before in rw (a .before .before .enum-told5 .given .1) (a .wrong3 .ensures)
 
 same-length-5 : tie.Need-same-length-5
-same-length-5 c = c .before .before .show .kept .1 .0
+same-length-5 c = c .before .before .print-record .kept .1 .0
 
 returns-7 : tie.Need-returns-7
-returns-7 c = let a = c .before .before in rw (a .before .before .enum-told6 .given .1) (a .show .ensures)
+returns-7 c = let a = c .before .before in rw (a .before .before .enum-told6 .given .1) (a .print-record .ensures)
 
 same-length-6 : tie.Need-same-length-6
-same-length-6 c = c .before .before .table .kept .1 .0
+same-length-6 c = c .before .before .print-table .kept .1 .0
 
 returns-8 : tie.Need-returns-8
-returns-8 c = let a = c .before .before in rw (a .before .before .enum-told7 .given .1) (a .table .ensures)
+returns-8 c = let a = c .before .before in rw (a .before .before .enum-told7 .given .1) (a .print-table .ensures)
 
 pub outside-spec : {M : Type 1} → statement M
 outside-spec =
@@ -109,9 +109,9 @@ outside-spec =
     enum-told-5
     wrong-requires-3
     enum-told-6
-    show-requires
+    print-record-requires
     enum-told-7
-    table-requires
+    print-table-requires
     returns
     same-length
     returns-2

@@ -5,7 +5,7 @@ use mathlib.Core.Path.{_≡_, ap}
 use Prim.Native.Nat.{ℕ}
 use borrow.Author.Needs.{needs}
 use denote.Ref.{now}
-use Rattle.script.specs.Lines.{lineOf}
+use Rattle.script.specs.Lines.{lineOfText}
 use Rattle.blocks.specs.declared.Session.{Session}
 use Rattle.replies.specs.Lines.{inBlock, outside, response}
 use Rattle.replies.proofs.respond.Statement.{statement}
@@ -21,9 +21,9 @@ same-length : tie.Need-same-length
 same-length c = search needs
 
 answered : (s : Session) (text : List ℕ) (isOpen : Bool) → s .is_open ≡ isOpen
-    → response s text ≡ cond isOpen (inBlock s (lineOf text)) (outside s (lineOf text) text)
+    → response s text ≡ cond isOpen (inBlock s (lineOfText text)) (outside s (lineOfText text) text)
 unfolding response
-answered s text isOpen e = ap (λ (b : Bool). cond b (inBlock s (lineOf text)) (outside s (lineOf text) text)) e
+answered s text isOpen e = ap (λ (b : Bool). cond b (inBlock s (lineOfText text)) (outside s (lineOfText text) text)) e
 
 returns : tie.Need-returns
 returns c =

@@ -1,6 +1,6 @@
 -- Each place is that of its reader in the table, and no other place has one.
 use denote.Ref.{now}
-use Rattle.script.specs.Lines.{calls}
+use Rattle.script.specs.Lines.{callEntries}
 use Rattle.script.proofs.Tables.{past-end}
 use Rattle.script.proofs.call_at.Statement.{statement}
 use Rattle.script.proofs.call_at.Tie as tie
@@ -66,7 +66,7 @@ returns-10 : tie.Need-returns-10
 returns-10 c = rw (c .before .match .keys10) (c .log-line .ensures)
 
 returns-11 : tie.Need-returns-11
-returns-11 c = let a = c .before .before .args in past-end calls (a .place) (now (a .line)) (c .match .rest)
+returns-11 c = let a = c .before .before .args in past-end callEntries (a .place) (now (a .line)) (c .match .rest)
 
 pub call-at-spec : {M : Type 1} → statement M
 call-at-spec =

@@ -1,6 +1,6 @@
 -- Each place is that of its reader in the table, and no other place has one.
 use denote.Ref.{now}
-use Rattle.script.specs.Lines.{lone}
+use Rattle.script.specs.Lines.{loneEntries}
 use Rattle.script.proofs.Tables.{past-end}
 use Rattle.script.proofs.lone_at.Statement.{statement}
 use Rattle.script.proofs.lone_at.Tie as tie
@@ -33,7 +33,7 @@ returns-4 : tie.Need-returns-4
 returns-4 c = rw (c .before .match .keys4, ← c .before .before .word-count .ensures) (c .offered4 .ensures)
 
 returns-5 : tie.Need-returns-5
-returns-5 c = let a = c .before .before .before .args in past-end lone (a .place) (now (a .line)) (c .match .rest)
+returns-5 c = let a = c .before .before .before .args in past-end loneEntries (a .place) (now (a .line)) (c .match .rest)
 
 pub lone-at-spec : {M : Type 1} → statement M
 lone-at-spec =

@@ -1,6 +1,6 @@
 -- Each place is that of its reader in the table, and no other place has one.
 use denote.Ref.{now}
-use Rattle.script.specs.Lines.{parts}
+use Rattle.script.specs.Lines.{partEntries}
 use Rattle.script.proofs.Tables.{past-end}
 use Rattle.script.proofs.part_at.Statement.{statement}
 use Rattle.script.proofs.part_at.Tie as tie
@@ -36,7 +36,7 @@ returns-5 : tie.Need-returns-5
 returns-5 c = rw (c .before .match .keys5) (c .out-line .ensures)
 
 returns-6 : tie.Need-returns-6
-returns-6 c = let a = c .before .before .args in past-end parts (a .place) (now (a .line)) (c .match .rest)
+returns-6 c = let a = c .before .before .args in past-end partEntries (a .place) (now (a .line)) (c .match .rest)
 
 pub part-at-spec : {M : Type 1} → statement M
 part-at-spec =

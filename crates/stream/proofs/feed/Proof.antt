@@ -1,4 +1,4 @@
--- At each turn the run has heard what stands from the start to `run.from`, at least a byte of it once something is printed: so a run that
+-- At each turn the run has been fed what stands from the start to `run.from`, at least a byte of it once something is printed: so a run that
 -- stops for want of room has gone on. The measure is what is left of the input: a turn goes on by a byte or more.
 use mathlib.Core.Path.{_≡_, refl}
 use mathlib.Core.Bool.{Bool, true, false, _&&_, and-eq-true-iff}
@@ -9,14 +9,14 @@ use borrow.Author.Tests.{leb-true, leb-false, ltb-true, ltb-false}
 use lib.Dec.{ltb, leb}
 use lib.ListN.{length}
 use denote.Ref.{now}
-use Rattle.stream.specs.Streams.{streamOf, heardAll, emptied, between}
-use Rattle.stream.proofs.Streams.{heard-on}
+use Rattle.stream.specs.Streams.{streamOf, fedAll, emptied, bytesBetween}
+use Rattle.stream.proofs.Streams.{fed-on}
 use Rattle.stream.proofs.feed.Statement.{statement}
 use Rattle.stream.proofs.feed.Tie as tie
 
 abbrev Inv-loop : tie.InvT-loop
 Inv-loop input line₀ out₀ room run₀ line out run =
-    (streamOf run line out ≡ heardAll (streamOf run₀ line₀ out₀) (between (run₀ .from) (run .from) input))
+    (streamOf run line out ≡ fedAll (streamOf run₀ line₀ out₀) (bytesBetween (run₀ .from) (run .from) input))
     × (run₀ .from + min 1 (run .at) ≤ run .from)
     × (run .at ≤ length out)
     × (length line ≡ length line₀)
@@ -46,22 +46,24 @@ sub-room : tie.Need-sub-room Inv-loop μ-loop
 sub-room c = omega arith
 
 loop-holds : tie.Need-loop-holds Inv-loop μ-loop
-unfolding heardAll
+unfolding fedAll
 loop-holds c = (rw sub-self, omega arith, omega arith, omega arith, omega arith)
 
 feed-line-requires : tie.Need-feed-line-requires Inv-loop μ-loop
 feed-line-requires c κs = let g = goes (c .before .before) in (g .0, (omega arith, omega (arith, g .1)))
 
 loop-less : tie.Need-loop-less Inv-loop μ-loop
-loop-less c = omega (arith, goes (c .before .before .before .before .before .before .before) .0)
+loop-less c = let fed = c .before .before .before .before in omega (arith, goes (fed .before .before .before) .0)
 
 loop-again : tie.Need-loop-again Inv-loop μ-loop
 loop-again c =
-    let next = c .before .before .before .before .feed-line in
-    let at = c .before .before .before .before .before .before .before .before .before .before in
+    let fed = c .before .before .before .before in
+    let next = fed .feed-line in
+    let at = fed .before .before .before .before .before .before in
     let start = at .before .before .before .before .before .args in
+    let input = now (start .input) in
     let s = emptied (streamOf (start .r) (now (start .line)) (now (start .out))) in (
-      heard-on s (now (start .input)) (start .r .from) (at .loop .run .from) (next .result .from) (omega arith) (omega arith) (at .loop .inv .0) (next .ensures .0),
+      fed-on s input (start .r .from) (at .loop .run .from) (next .result .from) (omega arith) (omega arith) (at .loop .inv .0) (next .ensures .0),
       omega arith,
       omega arith,
       omega arith,

@@ -7,7 +7,7 @@ use native.Mathlib.Omega.{arith}
 use lib.ListN.{length, length-take, take}
 use denote.Ref.{now}
 use Rattle.words.proofs.Scans.{feed, scan-within}
-use Rattle.stream.specs.Streams.{streamOf, answered, heardAll, between}
+use Rattle.stream.specs.Streams.{streamOf, answered, fedAll, bytesBetween}
 use Rattle.stream.proofs.Streams.{up-to-feed, past-feed}
 use Rattle.stream.proofs.feed_line.Statement.{statement}
 use Rattle.stream.proofs.feed_line.Tie as tie
@@ -22,16 +22,20 @@ within a =
 grows : (a : tie.After-append) → let e = a .before .before .before in let start = e .before .before .before .before .before .args in
     _≡_
     (record { session = start .r .session; kept = take (a .append .result) (a .append .last .0); printed = take (start .r .at) (now (start .out)) })
-    (heardAll (streamOf (start .r) (now (start .line)) (now (start .out)))
-    (between (start .r .from) (e .line-end .result) (now (start .input))))
+    (fedAll (streamOf (start .r) (now (start .line)) (now (start .out)))
+    (bytesBetween (start .r .from) (e .line-end .result) (now (start .input))))
 grows a =
     let e = a .before .before .before in
     let start = e .before .before .before .before .before in
     let s = streamOf (start .args .r) (now (start .args .line)) (now (start .args .out)) in
-    let more = between (start .args .r .from) (e .line-end .result) (now (start .args .input)) in
+    let more = bytesBetween (start .args .r .from) (e .line-end .result) (now (start .args .input)) in
     let kept : take (a .append .result) (a .append .last .0) ≡ take 4001 (s .kept ++ more) = rw (start .pre .1 .0) at (a .append .ensures .0) in
     let small : length (s .kept) ≤ 4001 = rw length-take (omega arith) in
     rw kept (sym (up-to-feed s (now (start .args .input)) (start .args .r .from) (e .line-end .result) (e .line-end .ensures) small))
+
+-- where a line is answered, its bytes have been kept
+abbrev appended : tie.After-end-line → tie.After-append
+appended a = a .before .before .before .before .before .before
 
 line-end-requires : tie.Need-line-end-requires
 line-end-requires c κs = search needs
@@ -69,12 +73,15 @@ same-length-3 c = search needs
 returns-2 : tie.Need-returns-2
 returns-2 c =
     let ended = c .before .before .end-line .ensures in
-    let a = c .before .before .before .before .before .before .before .before in
+    let a = appended (c .before .before) in
     let e = a .before .before .before in
     let start = e .before .before .before .before .before .args in
     let s = streamOf (start .r) (now (start .line)) (now (start .out)) in
     let inside = within e in (
-      rw (ended .1) (ended .0 ∙ ap answered (grows a) ∙ sym (past-feed s (now (start .input)) (start .r .from) (e .line-end .result) (e .line-end .ensures) (omega arith))),
+      rw (ended .1)
+          (ended .0
+          ∙ ap answered (grows a)
+          ∙ sym (past-feed s (now (start .input)) (start .r .from) (e .line-end .result) (e .line-end .ensures) (omega arith))),
       omega arith,
       omega arith,
       omega arith,

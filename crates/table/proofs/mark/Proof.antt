@@ -1,33 +1,29 @@
--- By the flag.
+-- The mark or blanks.
 use borrow.Author.Needs.{needs}
 use Rattle.table.proofs.mark.Statement.{statement}
 use Rattle.table.proofs.mark.Tie as tie
 
-slice-aggregate-phrase : tie.Need-slice-aggregate-phrase
-slice-aggregate-phrase c = search needs
+empty-requires : tie.Need-empty-requires
+empty-requires c κs = search needs
 
-phrase-requires : tie.Need-phrase-requires
-phrase-requires c κs = tt
+slice-aggregate-put-either : tie.Need-slice-aggregate-put-either
+slice-aggregate-put-either c = search needs
+
+slice-aggregate-put-either-2 : tie.Need-slice-aggregate-put-either-2
+slice-aggregate-put-either-2 c = search needs
+
+put-either-requires : tie.Need-put-either-requires
+put-either-requires c κs = search needs
 
 returns : tie.Need-returns
-returns c = rw (c .phrase .ensures, c .before .before .if1 .taken)
-
-slice-aggregate-phrase-2 : tie.Need-slice-aggregate-phrase-2
-slice-aggregate-phrase-2 c = search needs
-
-phrase-requires-2 : tie.Need-phrase-requires-2
-phrase-requires-2 c κs = tt
-
-returns-2 : tie.Need-returns-2
-returns-2 c = rw (c .phrase2 .ensures, c .before .before .if1 .left)
+returns c = rw (c .put-either .ensures, c .before .before .before .empty .ensures)
 
 pub mark-spec : {M : Type 1} → statement M
 mark-spec =
     tie.close
     (tie.spec
-    slice-aggregate-phrase
-    phrase-requires
-    returns
-    slice-aggregate-phrase-2
-    phrase-requires-2
-    returns-2)
+    empty-requires
+    slice-aggregate-put-either
+    slice-aggregate-put-either-2
+    put-either-requires
+    returns)

@@ -4,8 +4,8 @@ use Rattle.digits.proofs.Digits.{cut-more}
 use Rattle.table.proofs.put_left.Statement.{statement}
 use Rattle.table.proofs.put_left.Tie as tie
 
-runs-requires : tie.Need-runs-requires
-runs-requires c κs = tt
+is-running-requires : tie.Need-is-running-requires
+is-running-requires c κs = tt
 
 slice-aggregate-put-all : tie.Need-slice-aggregate-put-all
 slice-aggregate-put-all c = search needs
@@ -23,7 +23,7 @@ returns : tie.Need-returns
 returns c =
     let a = c .before .before in
     let test = a .before .before in
-    rw (c .put-seconds .ensures, c .before .time-left .ensures, a .put-all .ensures, cut-more, ← test .before .runs .ensures, test .if1 .taken)
+    rw (c .put-seconds .ensures, c .before .time-left .ensures, a .put-all .ensures, cut-more, ← test .before .is-running .ensures, test .if1 .taken)
 
 slice-aggregate-put-all-2 : tie.Need-slice-aggregate-put-all-2
 slice-aggregate-put-all-2 c = search needs
@@ -32,13 +32,13 @@ put-all-requires-2 : tie.Need-put-all-requires-2
 put-all-requires-2 c κs = tt
 
 returns-2 : tie.Need-returns-2
-returns-2 c = rw (c .put-all2 .ensures, ← c .before .before .before .runs .ensures, c .before .before .if1 .left)
+returns-2 c = rw (c .put-all2 .ensures, ← c .before .before .before .is-running .ensures, c .before .before .if1 .left)
 
 pub put-left-spec : {M : Type 1} → statement M
 put-left-spec =
     tie.close
     (tie.spec
-    runs-requires
+    is-running-requires
     slice-aggregate-put-all
     put-all-requires
     time-left-requires

@@ -37,7 +37,8 @@ add-result-2 c = search needs
 
 returns-3 : tie.Need-returns-3
 returns-3 c =
-    (rw (c .before .before .if1 .left, c .before .if2 .left, c .if3 .taken), omega (arith, in-range 97 102 (c .before .before .before .args .b) (c .if3 .taken)))
+    let within = in-range 97 102 (c .before .before .before .args .b) (c .if3 .taken) in
+    (rw (c .before .before .if1 .left, c .before .if2 .left, c .if3 .taken), omega (arith, within))
 
 returns-4 : tie.Need-returns-4
 returns-4 c = (rw (c .before .before .if1 .left, c .before .if2 .left, c .if3 .left), omega arith)

@@ -1,6 +1,6 @@
 -- The two names are the words of the text `0 1`.
 use borrow.Author.Needs.{needs}
-use Rattle.words.specs.Numbers.{flagOf}
+use Rattle.words.specs.Numbers.{wordFlag}
 use Rattle.words.specs.Words.{words, pieces, nonempty}
 use Rattle.words.proofs.flag_at.Statement.{statement}
 use Rattle.words.proofs.flag_at.Tie as tie
@@ -12,7 +12,7 @@ name-at-requires : tie.Need-name-at-requires
 name-at-requires c κs = search needs
 
 returns : tie.Need-returns
-unfolding flagOf words pieces nonempty
+unfolding wordFlag words pieces nonempty
 returns c = rw (c .name-at .ensures)
 
 pub flag-at-spec : {M : Type 1} → statement M

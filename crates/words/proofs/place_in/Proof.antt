@@ -58,32 +58,36 @@ are-same-requires c κs = tt
 returns-2 : tie.Need-returns-2 Inv-loop μ-loop
 unfolding placeIn
 returns-2 c =
-    let a = c .before .before .before .before .before .before .before in
-    let n = c .before .before .before .before .before .before .next-word in
+    let some = c .before .before .before in
+    let n = some .before .before .before .next-word in
+    let a = some .before .before .before .before in
     let names = now (a .before .before .before .args .names) in
-    let one = next-one names (a .loop .from) _ _ (n .ensures .0) (n .ensures .1) (c .before .before .before .if1 .left) in
+    let one = next-one names (a .loop .from) _ _ (n .ensures .0) (n .ensures .1) (some .if1 .left) in
     let found = rw (c .before .are-same .ensures, add-sub-cancel-left) at (c .if2 .taken) in
     rw (a .loop .inv .0, one, found, add-zero)
 
 add-place : tie.Need-add-place Inv-loop μ-loop
 add-place c =
-    let a = c .before .before .before .before .before .before .before in
-    let n = c .before .before .before .before .before .before .next-word .ensures in
+    let some = c .before .before .before in
+    let n = some .before .before .before .next-word .ensures in
+    let a = some .before .before .before .before in
     omega (arith, next-within (now (a .before .before .before .args .names)) (a .loop .from) _ _ (n .0) (n .1) (a .loop .inv .2))
 
 loop-less : tie.Need-loop-less Inv-loop μ-loop
 loop-less c =
-    let a = c .before .before .before .before .before .before .before in
-    let n = c .before .before .before .before .before .before .next-word .ensures in
+    let some = c .before .before .before in
+    let n = some .before .before .before .next-word .ensures in
+    let a = some .before .before .before .before in
     omega (arith, next-within (now (a .before .before .before .args .names)) (a .loop .from) _ _ (n .0) (n .1) (a .loop .inv .2))
 
 loop-again : tie.Need-loop-again Inv-loop μ-loop
 unfolding placeIn
 loop-again c =
-    let a = c .before .before .before .before .before .before .before in
-    let n = c .before .before .before .before .before .before .next-word in
+    let some = c .before .before .before in
+    let n = some .before .before .before .next-word in
+    let a = some .before .before .before .before in
     let names = now (a .before .before .before .args .names) in
-    let one = next-one names (a .loop .from) _ _ (n .ensures .0) (n .ensures .1) (c .before .before .before .if1 .left) in
+    let one = next-one names (a .loop .from) _ _ (n .ensures .0) (n .ensures .1) (some .if1 .left) in
     let other = rw (c .before .are-same .ensures, add-sub-cancel-left) at (c .if2 .left) in (
       rw (a .loop .inv .0, one, other) (omega arith),
       omega arith,

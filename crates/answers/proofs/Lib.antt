@@ -1,0 +1,4 @@
+pub mod Buffers
+pub mod LogPage
+pub mod Ticking
+pub mod Tellings

@@ -1,0 +1,21 @@
+-- Reading the log page changes no record: none of its refusals is the one that sets the idle count to 0.
+use mathlib.Core.Path.{_≡_, refl}
+use mathlib.Core.Bool.{Bool, true, false}
+use mathlib.Core.List.{List, [], _∷_}
+use Prim.Native.Nat.{ℕ}
+use Rattle.pages.specs.Logs.{logBytes}
+use Rattle.readouts.specs.Readouts.{filled, logOutcome}
+use Rattle.refusals.specs.Refusals.{_gives_, lowest}
+use Rattle.refusals.specs.declared.Refusal.the-variants.{BadLength, BadRecord}
+use Rattle.unit.specs.declared.Unit.{Unit}
+
+kept-by : (u : Unit) (page buffer : List ℕ) (long bad : Bool)
+    → filled u u page buffer (lowest ((long gives BadLength) ∷ (bad gives BadRecord) ∷ [])) .called .unit ≡ u
+unfolding lowest
+kept-by u page buffer true bad = refl
+kept-by u page buffer false true = refl
+kept-by u page buffer false false = refl
+
+pub log-keeps : (u : Unit) (buffer : List ℕ) → logOutcome u buffer .called .unit ≡ u
+unfolding logOutcome
+log-keeps u buffer = kept-by u (logBytes (u .drive .records)) buffer _ _

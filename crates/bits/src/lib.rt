@@ -1,0 +1,1 @@
+// No code: bits of a number, as the papers write them.

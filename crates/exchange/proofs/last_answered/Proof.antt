@@ -1,0 +1,33 @@
+-- By the answer, as the target reads it.
+use borrow.Author.Needs.{needs}
+use Rattle.exchange.proofs.last_answered.Statement.{statement}
+use Rattle.exchange.proofs.last_answered.Tie as tie
+
+counts-as-good-requires : tie.Need-counts-as-good-requires
+counts-as-good-requires c κs = search needs
+
+succeed-requires : tie.Need-succeed-requires
+succeed-requires c κs = search needs
+
+flushes-of-requires : tie.Need-flushes-of-requires
+flushes-of-requires c κs = search needs
+
+fail-requires : tie.Need-fail-requires
+fail-requires c κs = search needs
+
+returns : tie.Need-returns
+returns c = rw (← c .before .before .counts-as-good .ensures, c .before .if1 .taken, c .succeed .ensures)
+
+returns-2 : tie.Need-returns-2
+returns-2 c = rw (← c .before .before .before .counts-as-good .ensures, c .before .before .if1 .left, c .fail .ensures, c .before .flushes-of .ensures)
+
+pub last-answered-spec : {M : Type 1} → statement M
+last-answered-spec =
+    tie.close
+    (tie.spec
+    counts-as-good-requires
+    succeed-requires
+    flushes-of-requires
+    fail-requires
+    returns
+    returns-2)

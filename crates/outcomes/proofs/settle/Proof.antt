@@ -1,0 +1,19 @@
+-- By the verdict.
+use borrow.Author.Needs.{needs}
+use Rattle.outcomes.proofs.settle.Statement.{statement}
+use Rattle.outcomes.proofs.settle.Tie as tie
+
+enum-told : tie.Need-enum-told
+enum-told c = search needs
+
+enum-known-v : tie.Need-enum-known-v
+enum-known-v c = search needs
+
+returns : tie.Need-returns
+returns c = rw (c .enum-told .given .1)
+
+returns-2 : tie.Need-returns-2
+returns-2 c = rw (c .before .v .given .1)
+
+pub settle-spec : {M : Type 1} → statement M
+settle-spec = tie.close (tie.spec enum-told enum-known-v returns returns-2)

@@ -1,0 +1,88 @@
+-- The format page, "Set-up": the lines `c` and `state` of a block. Assumes nothing.
+use mathlib.Core.Bool.{Bool, Bool·beq, cond, _&&_}
+use mathlib.Core.List.{List, [], _∷_}
+use Prim.Native.Nat.{ℕ, _+_, _-_}
+use lib.Dec.{eqb, ltb}
+use Rattle.asked.specs.declared.Line.{Line}
+use Rattle.asked.specs.declared.Line.the-variants.{Sets}
+use Rattle.asked.specs.declared.Part.the-variants.{Settings, Stands}
+use Rattle.asked.specs.declared.State.{State}
+use Rattle.conditions.specs.Conditions.{conditionAt}
+use Rattle.conditions.specs.declared.Cause.{Cause}
+use Rattle.conditions.specs.declared.Cause.the-variants.{Timer, Command}
+use Rattle.conditions.specs.declared.Power.{Power}
+use Rattle.conditions.specs.declared.Power.the-variants.{Active, Low}
+use Rattle.words.specs.Codes.{codes}
+use Rattle.asked.specs.Offers.{offered}
+use Rattle.words.specs.Fields.{hasWords, nameIn, wideIn, flagIn, conditionLetters}
+use Rattle.parts.specs.declared.ReadRecord.{ReadRecord}
+use Rattle.parts.specs.declared.ReadSetting.{ReadSetting}
+
+-- ---- c X SUP SAV CHG REC DE DT SE ST CE CT
+
+-- "default, saved, current, each as enabled flag and timer".
+abbrev pub settingIn : ℕ → List ℕ → ReadSetting
+settingIn k line = record {
+  good = flagIn k line .good && wideIn (k + 1) line .good;
+  value = record { enabled = flagIn k line .value; timer = record { 0 = wideIn (k + 1) line .value } };
+}
+
+-- "flags; recovery in ms".
+abbrev pub recordIn : List ℕ → ReadRecord
+recordIn line = record {
+  good =
+      (flagIn 2 line .good && flagIn 3 line .good && flagIn 4 line .good)
+      && wideIn 5 line .good
+      && settingIn 6 line .good
+      && settingIn 8 line .good
+      && settingIn 10 line .good;
+  value = record {
+    supported = flagIn 2 line .value;
+    saveable = flagIn 3 line .value;
+    changeable = flagIn 4 line .value;
+    recovery = record { 0 = wideIn 5 line .value };
+    default = settingIn 6 line .value;
+    saved = settingIn 8 line .value;
+    current = settingIn 10 line .value;
+  };
+}
+
+unfoldable pub conditionLine : List ℕ → Line
+conditionLine line =
+    offered (hasWords 12 line && ltb (nameIn conditionLetters 1 line) 5 && recordIn line .good)
+    (Sets (Settings (conditionAt (nameIn conditionLetters 1 line)) (recordIn line .value)))
+
+-- ---- state COND CAUSE IDLE STOPPED UNSAVED
+
+-- "COND = active A B C Y Z; CAUSE = none timer command; two flags".
+abbrev pub conditionNames : List (List ℕ)
+conditionNames = codes "active" ∷ conditionLetters
+
+abbrev pub causeNames : List (List ℕ)
+causeNames = codes "none" ∷ codes "timer" ∷ codes "command" ∷ []
+
+abbrev pub causeFrom : ℕ → Cause
+causeFrom place = cond (eqb place 1) Timer Command
+
+abbrev pub powerFrom : ℕ → ℕ → Power
+powerFrom condition cause = cond (eqb condition 0) Active (Low (conditionAt (condition - 1)) (causeFrom cause))
+
+-- "a cause in Active or none below it" is a bad line.
+abbrev pub isPower : ℕ → ℕ → Bool
+isPower condition cause = ltb condition 6 && ltb cause 3 && Bool·beq (eqb condition 0) (eqb cause 0)
+
+abbrev pub stateIn : List ℕ → State
+stateIn line = record {
+  power = powerFrom (nameIn conditionNames 1 line) (nameIn causeNames 2 line);
+  idle = record { 0 = wideIn 3 line .value };
+  stopped = flagIn 4 line .value;
+  unsaved = flagIn 5 line .value;
+}
+
+unfoldable pub stateLine : List ℕ → Line
+stateLine line =
+    offered
+    (hasWords 6 line
+    && isPower (nameIn conditionNames 1 line) (nameIn causeNames 2 line)
+    && wideIn 3 line .good && flagIn 4 line .good && flagIn 5 line .good)
+    (Sets (Stands (stateIn line)))

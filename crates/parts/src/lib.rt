@@ -1,0 +1,124 @@
+// The lines of a set-up block that are the drive's, read: `c` and `state`, each as the part of a record that it sets.
+ghost use mathlib.Core.Path.{_≡_};
+ghost use Prim.Native.Nat.{_≤_};
+ghost use Rattle.parts.specs.Parts.{settingIn, recordIn, causeFrom, powerFrom, isPower, conditionLine, stateLine};
+use asked::Line;
+use asked::Part;
+use asked::State;
+use conditions::Cause;
+use conditions::Power;
+use drive::Millis;
+use drive::Record;
+use drive::Setting;
+use drive::Tenths;
+
+// What some of a line's words spell, if they spell it.
+pub struct ReadSetting {
+    pub good: bool,
+    pub value: Setting,
+}
+
+pub struct ReadRecord {
+    pub good: bool,
+    pub value: Record,
+}
+
+// An enabled flag and a timer.
+fn setting_at(line: &[u8], k: usize) -> ReadSetting
+    requires { ⌜ k ≤ 10 ⌝ }
+    ensures { λ r. ⌜ r ≡ settingIn k (now (line .entry)) ⌝ }
+{
+    let enabled = words::flag_at(line, k);
+    let timer = words::number_at(line, k + 1, 0xFFFFFFFF);
+    ReadSetting {
+        good: enabled.good & timer.good,
+        value: Setting {
+            enabled: enabled.value,
+            timer: Tenths(timer.value),
+        },
+    }
+}
+
+fn record_in(line: &[u8]) -> ReadRecord
+    ensures { λ r. ⌜ r ≡ recordIn (now (line .entry)) ⌝ }
+{
+    let supported = words::flag_at(line, 2);
+    let saveable = words::flag_at(line, 3);
+    let changeable = words::flag_at(line, 4);
+    let recovery = words::number_at(line, 5, 0xFFFFFFFF);
+    let first = setting_at(line, 6);
+    let second = setting_at(line, 8);
+    let third = setting_at(line, 10);
+    let flags = supported.good & saveable.good & changeable.good;
+    let default = first.value;
+    let saved = second.value;
+    let current = third.value;
+    ReadRecord {
+        good: flags & recovery.good & first.good & second.good & third.good,
+        value: Record {
+            supported: supported.value,
+            saveable: saveable.value,
+            changeable: changeable.value,
+            recovery: Millis(recovery.value),
+            default,
+            saved,
+            current,
+        },
+    }
+}
+
+pub fn condition_line(line: &[u8]) -> Line
+    ensures { λ r. ⌜ r ≡ conditionLine (now (line .entry)) ⌝ }
+{
+    let n = words::word_count(line);
+    let place = words::name_at(line, 1, b"A B C Y Z");
+    let read = record_in(line);
+    let record = read.value;
+    let part = Part::Settings(asked::condition_at(place), record);
+    asked::offered((n == 12) & (place < 5) & read.good, Line::Sets(part))
+}
+
+fn cause_from(place: usize) -> Cause
+    ensures { λ r. ⌜ r ≡ causeFrom place ⌝ }
+{
+    if place == 1 {
+        Cause::Timer
+    } else {
+        Cause::Command
+    }
+}
+
+fn power_from(condition: usize, cause: usize) -> Power
+    ensures { λ r. ⌜ r ≡ powerFrom condition cause ⌝ }
+{
+    if condition == 0 {
+        return Power::Active;
+    }
+    Power::Low(asked::condition_at(condition - 1), cause_from(cause))
+}
+
+// "a cause in Active or none below it" is a bad line.
+fn is_power(condition: usize, cause: usize) -> bool
+    ensures { λ r. ⌜ r ≡ isPower condition cause ⌝ }
+{
+    (condition < 6) & (cause < 3) & ((condition == 0) == (cause == 0))
+}
+
+pub fn state_line(line: &[u8]) -> Line
+    ensures { λ r. ⌜ r ≡ stateLine (now (line .entry)) ⌝ }
+{
+    let n = words::word_count(line);
+    let condition = words::name_at(line, 1, b"active A B C Y Z");
+    let cause = words::name_at(line, 2, b"none timer command");
+    let idle = words::number_at(line, 3, 0xFFFFFFFF);
+    let stopped = words::flag_at(line, 4);
+    let unsaved = words::flag_at(line, 5);
+    let state = State {
+        power: power_from(condition, cause),
+        idle: Tenths(idle.value),
+        stopped: stopped.value,
+        unsaved: unsaved.value,
+    };
+    let good = (n == 6) & is_power(condition, cause) & idle.good & stopped.good & unsaved.good;
+    asked::offered(good, Line::Sets(Part::Stands(state)))
+}

@@ -1,0 +1,55 @@
+-- The whole outcome of REQUEST SENSE and of the log page: document 01, "Sense and log bytes".
+use mathlib.Core.Bool.{true, false}
+use mathlib.Core.List.{List}
+use Prim.Native.Nat.{ℕ}
+use lib.ListN.{length}
+use Rattle.conditions.specs.declared.Power.{Power}
+use Rattle.senses.specs.Senses.{senseBytes, powerSense}
+use Rattle.pages.specs.Logs.{logBytes}
+use Rattle.unit.specs.Units.{isOut, heldOf, wellFormed, withHeld, rested}
+use Rattle.requests.specs.Requests.{failureSense}
+use Rattle.refusals.specs.Refusals.{Row, lowest}
+use Rattle.refusals.specs.Verdicts.{rowsOfSense, rowsOfPage}
+use Rattle.refusals.specs.declared.Verdict.{Verdict}
+use Rattle.refusals.specs.declared.Verdict.the-variants.{Clear, Given}
+use Rattle.unit.specs.declared.Held.{Held}
+use Rattle.unit.specs.declared.Held.the-variants.{Nothing, Holds}
+use Rattle.outcomes.specs.declared.Called.{Called}
+use Rattle.unit.specs.declared.Unit.{Unit}
+use Rattle.outcomes.specs.Settled.{settled}
+
+-- ---- REQUEST SENSE
+
+-- What a call on a lent buffer leaves: its answer with the record, and the buffer.
+pub record Filled : Type 0 where
+  pub called : Called
+  pub buffer : List ℕ
+
+-- "A refusal writes to no buffer".
+abbrev pub filled : Unit → Unit → List ℕ → List ℕ → Verdict → Filled
+filled u effect bytes buffer Clear = record { called = settled u effect Clear; buffer = bytes }
+filled u effect bytes buffer (Given r) = record { called = settled u effect (Given r); buffer = buffer }
+
+abbrev pub senseRows : Unit → ℕ → List ℕ → List Row
+senseRows u host buffer = rowsOfSense (length buffer) host (wellFormed u) (isOut (u .out))
+
+-- "The host's held deferred sense comes first and is then dropped (H); else key 0 with the condition".
+abbrev pub toldBytes : Power → Held → List ℕ
+toldBytes p Nothing = senseBytes false (powerSense p)
+toldBytes p (Holds f) = senseBytes true (failureSense f)
+
+abbrev pub senseEffect : ℕ → Unit → Unit
+senseEffect host u = withHeld host Nothing (rested u)
+
+unfoldable pub senseOutcome : Unit → ℕ → List ℕ → Filled
+senseOutcome u host buffer =
+    filled u (senseEffect host u) (toldBytes (u .drive .power) (heldOf (u .held) host)) buffer (lowest (senseRows u host buffer))
+
+-- ---- the Power Conditions log page
+
+abbrev pub logRows : Unit → List ℕ → List Row
+logRows u buffer = rowsOfPage 512 (length buffer) (wellFormed u)
+
+-- "Reading the log page changes no record."
+unfoldable pub logOutcome : Unit → List ℕ → Filled
+logOutcome u buffer = filled u u (logBytes (u .drive .records)) buffer (lowest (logRows u buffer))

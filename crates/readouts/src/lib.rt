@@ -1,0 +1,69 @@
+// REQUEST SENSE and the log page: the calls that write into a lent buffer.
+ghost use mathlib.Core.Path.{_≡_};
+ghost use Rattle.readouts.specs.Readouts.{toldBytes, senseEffect, senseOutcome, logOutcome};
+ghost use Rattle.unit.specs.Units.{heldOf};
+use conditions::Power;
+use outcomes::Called;
+use refusals::Answer;
+use refusals::Verdict;
+use unit::Held;
+use unit::Unit;
+
+// A held deferred sense comes first, else the condition.
+fn told_bytes(p: Power, h: Held) -> [u8; 18]
+    ensures { λ r. ⌜ r ≡ toldBytes p h ⌝ }
+{
+    match h {
+        Held::Nothing => senses::sense_bytes(false, senses::sense_of_power(p)),
+        Held::Holds(f) => senses::sense_bytes(true, requests::failure_sense(f)),
+    }
+}
+
+fn told(u: Unit, host: u32) -> [u8; 18]
+    ensures { λ r. ⌜ r ≡ toldBytes (u .drive .power) (heldOf (u .held) host) ⌝ }
+{
+    let d = u.drive;
+    let power = d.power;
+    let held = u.held;
+    told_bytes(power, unit::held_of(held, host))
+}
+
+fn sense_effect(u: Unit, host: u32) -> Unit
+    ensures { λ v. ⌜ v ≡ senseEffect host u ⌝ }
+{
+    unit::with_held(unit::rest(u), host, Held::Nothing)
+}
+
+// REQUEST SENSE, into the lent buffer.
+pub fn request_sense(u: Unit, host: u32, buffer: &mut [u8]) -> Called
+    ensures { λ c. ⌜ (c ≡ senseOutcome u host (now (buffer .entry)) .called) × (now (buffer .exit) ≡ senseOutcome u host (now (buffer .entry)) .buffer) ⌝ }
+{
+    let ok = unit::unit_ok(u);
+    let out = u.out;
+    let v = refusals::sense_verdict(buffer.len(), host, ok, unit::is_out(out));
+    match v {
+        Verdict::Clear => {
+            let bytes = told(u, host);
+            rows::copy_in(&bytes, buffer, 0);
+            outcomes::settle(u, sense_effect(u, host), Verdict::Clear)
+        }
+        Verdict::Given(r) => outcomes::settle(u, u, Verdict::Given(r)),
+    }
+}
+
+// The Power Conditions log page, into the lent buffer. The record stays the caller's, unchanged.
+pub fn log_page(u: Unit, buffer: &mut [u8]) -> Answer
+    ensures { λ a. ⌜ (a ≡ logOutcome u (now (buffer .entry)) .called .answer) × (now (buffer .exit) ≡ logOutcome u (now (buffer .entry)) .buffer) ⌝ }
+{
+    let ok = unit::unit_ok(u);
+    let v = refusals::page_verdict(512, buffer.len(), ok);
+    match v {
+        Verdict::Clear => {
+            let records = u.drive.records;
+            let page = pages::log_page(records);
+            rows::copy_in(&page, buffer, 0);
+            Answer::Done
+        }
+        Verdict::Given(r) => Answer::Refused(r),
+    }
+}

@@ -1,0 +1,208 @@
+-- Wrong programs, as step functions: those of document 01's "Holding the wording to account" and "Slips seen in other boards", in its words, and others.
+-- Each does as the layer does but for its own slip.
+use mathlib.Core.Bool.{Bool, true, false, not, _&&_, _||_, cond}
+use lib.Dec.{eqb}
+use lib.ListN.{replicate}
+use Rattle.conditions.specs.declared.Power.the-variants.{Active}
+use Rattle.unit.specs.Units.{noneHeld, slotOf, unitOf, withMarks, withOut, withPower}
+use Rattle.refusals.specs.declared.Refusal.{Refusal}
+use Rattle.refusals.specs.declared.Refusal.the-variants.{BadRecord, OwnWaiting}
+use Rattle.refusals.specs.declared.SenseDue.{SenseDue}
+use Rattle.refusals.specs.declared.SenseDue.the-variants.{NoSense, WithSense}
+use Rattle.unit.specs.declared.Slot.{Slot}
+use Rattle.unit.specs.declared.Slot.the-variants.{Empty, Waiting}
+use Rattle.unit.specs.declared.Out.{Out}
+use Rattle.unit.specs.declared.Out.the-variants.{NoneOut, OutFor}
+use Rattle.refusals.specs.declared.Answer.the-variants.{Refused}
+use Rattle.unit.specs.declared.Unit.{Unit}
+use Rattle.operations.specs.Operations.{registersOf, flushesOf, dueFrom, isFlush}
+use Rattle.operations.specs.declared.Due.the-variants.{StandbyImmediate}
+use Rattle.operations.specs.declared.Acceptance.the-variants.{GoodDue, Pending, NotAccepted}
+use Rattle.operations.specs.declared.Next.the-variants.{Send, NotSent}
+use Rattle.requests.specs.declared.Reply.the-variants.{Good}
+use Rattle.operations.specs.declared.Report.{Report}
+use Rattle.operations.specs.declared.Progress.{Progress}
+use Rattle.operations.specs.declared.Progress.the-variants.{More, Ended, NotTaken}
+use Rattle.calls.specs.Calls.{Call, next, answer, Said, plain, accepted, sent, progressed, Outcome, outcome, StepFunction}
+use Rattle.calls.specs.Described.{sameKind, isWrite, reachOf, ofHost, isSenseOf, lent}
+use Rattle.calls.specs.Table.{verdictIn, isClear}
+use Rattle.runs.specs.Serial.{nothingWaits}
+
+-- ---- an outcome with one thing changed
+
+abbrev pub saying : Said → Outcome → Outcome
+saying said o = record { said = said; unit = o .unit; buffer = o .buffer }
+
+abbrev pub leaving : Unit → Outcome → Outcome
+leaving u o = record { said = o .said; unit = u; buffer = o .buffer }
+
+-- The record with this unsaved mark.
+abbrev pub marked : Bool → Unit → Unit
+marked unsaved u = withMarks (u .stopped) unsaved u
+
+-- ---- "one that flushes once and skips every later flush"
+
+-- An operation waits, and a flush of it is answered.
+abbrev pub hasFlushed : Slot → Bool
+hasFlushed Empty = false
+hasFlushed (Waiting q) = not (eqb (flushesOf (q .stage)) 0)
+
+-- The call asks or answers for such an operation.
+abbrev pub afterFlush : Unit → Call → Bool
+afterFlush u c =
+    (sameKind c (next 0) || sameKind c (answer 0 Good)) && ofHost (λ host. hasFlushed (slotOf (u .slots) host)) (reachOf c)
+
+-- It then does as on a record with the unsaved mark clear,
+abbrev pub unlooked : StepFunction
+unlooked u c = outcome (marked false u) c
+
+-- and leaves the mark as it was.
+abbrev pub flushesOnce : StepFunction
+flushesOnce u c = cond (afterFlush u c) (leaving (marked (u .unsaved) (unlooked u c .unit)) (unlooked u c)) (outcome u c)
+
+-- One that also clears the mark as the last command goes out, as if the flush had been sent. A refusal still leaves it.
+abbrev pub clearsMark : StepFunction
+clearsMark u c = cond (afterFlush u c && isClear (verdictIn (outcome u c .said))) (unlooked u c) (outcome u c)
+
+-- ---- others
+
+-- One that takes a write while a command is out, as if none were: the flush that is out may not cover it.
+abbrev pub writesThrough : StepFunction
+writesThrough u c =
+    let o = outcome (withOut NoneOut u) c in
+    cond (isWrite c) (leaving (withOut (u .out) (o .unit)) o) (outcome u c)
+
+-- One that parks the unit on a start: STANDBY IMMEDIATE is handed out for the verify.
+abbrev pub parking : Said → Said
+parking (plain a) = plain a
+parking (accepted a) = accepted a
+parking (sent (Send q)) = sent (Send (cond (eqb (q .command) 0x40) (registersOf StandbyImmediate) q))
+parking (sent (NotSent r)) = sent (NotSent r)
+parking (progressed p) = progressed p
+
+abbrev pub startParks : StepFunction
+startParks u c = saying (parking (outcome u c .said)) (outcome u c)
+
+-- "one that changes nothing": it says what the layer says.
+abbrev pub changesNothing : StepFunction
+changesNothing u c = leaving u (outcome u c)
+
+-- ---- failures
+
+abbrev pub isDue : SenseDue → Bool
+isDue NoSense = false
+isDue (WithSense s) = true
+
+-- The operation is over, and the end report has a failure's sense.
+abbrev pub isFailure : Said → Bool
+isFailure (plain a) = false
+isFailure (accepted a) = false
+isFailure (sent n) = false
+isFailure (progressed More) = false
+isFailure (progressed (Ended report)) = isDue (report .sense)
+isFailure (progressed (NotTaken r)) = false
+
+-- A failure leaves another record, made from the one before the call and the one that it should leave.
+abbrev pub onFailure : (Unit → Unit → Unit) → StepFunction
+onFailure change u c = cond (isFailure (outcome u c .said)) (leaving (change u (outcome u c .unit)) (outcome u c)) (outcome u c)
+
+-- Against "Bad flush: Active" and "Bad last command: Active": the power condition stays.
+abbrev pub keepsPower : StepFunction
+keepsPower = onFailure (λ before u. withPower (before .drive .power) u)
+
+-- The command that is out is a flush.
+abbrev pub flushDue : Bool → Slot → Bool
+flushDue unsaved Empty = false
+flushDue unsaved (Waiting q) = isFlush (dueFrom unsaved q)
+
+abbrev pub flushOut : Unit → Out → Bool
+flushOut u NoneOut = false
+flushOut u (OutFor host) = flushDue (u .unsaved) (slotOf (u .slots) host)
+
+-- Against "Bad flush: .. marks as before": it clears the unsaved mark.
+abbrev pub badFlushSaves : StepFunction
+badFlushSaves u c =
+    cond (isFailure (outcome u c .said) && flushOut u (u .out)) (leaving (marked false (outcome u c .unit)) (outcome u c)) (outcome u c)
+
+-- "Clearing the stopped mark when a go to failed", and whenever another operation did.
+abbrev pub failureStarts : StepFunction
+failureStarts = onFailure (λ before u. withMarks false (u .unsaved) u)
+
+-- One that holds no failure, though it reports it as held.
+abbrev pub forgets : StepFunction
+forgets = onFailure (λ before u. unitOf (u .drive) (u .stopped) (u .unsaved) (u .slots) (before .held) (u .out))
+
+-- One that reports twice: it gives a failure's report, and lets the operation wait on.
+abbrev pub reportsTwice : StepFunction
+reportsTwice = onFailure (λ before u. unitOf (u .drive) (u .stopped) (u .unsaved) (before .slots) (u .held) (u .out))
+
+-- ---- refusals
+
+-- A refusal in the words of the call's own answer; record and buffer as they came.
+abbrev pub refusing : Refusal → Said → Said
+refusing r (plain a) = plain (Refused r)
+refusing r (accepted a) = accepted (NotAccepted r)
+refusing r (sent n) = sent (NotSent r)
+refusing r (progressed p) = progressed (NotTaken r)
+
+abbrev pub refused : Refusal → StepFunction
+refused r u c = record { said = refusing r (outcome u c .said); unit = u; buffer = lent c }
+
+-- "one that refuses all": number 3 for every call.
+abbrev pub refusesAll : StepFunction
+refusesAll = refused BadRecord
+
+-- START STOP UNIT was accepted.
+abbrev pub isAcceptance : Said → Bool
+isAcceptance (plain a) = false
+isAcceptance (accepted GoodDue) = true
+isAcceptance (accepted Pending) = true
+isAcceptance (accepted (NotAccepted r)) = false
+isAcceptance (sent n) = false
+isAcceptance (progressed p) = false
+
+-- "one that admits a single operation for the whole unit": number 6 while any host's operation waits.
+abbrev pub oneForAll : StepFunction
+oneForAll u c = cond (isAcceptance (outcome u c .said) && not (nothingWaits u)) (refused OwnWaiting u c) (outcome u c)
+
+-- ---- what is told
+
+-- Something else is said where an end report is due.
+abbrev pub atEnd : (Report → Progress) → Said → Said
+atEnd say (plain a) = plain a
+atEnd say (accepted a) = accepted a
+atEnd say (sent n) = sent n
+atEnd say (progressed More) = progressed More
+atEnd say (progressed (Ended report)) = progressed (say report)
+atEnd say (progressed (NotTaken r)) = progressed (NotTaken r)
+
+abbrev pub reporting : (Report → Progress) → StepFunction
+reporting say u c = saying (atEnd say (outcome u c .said)) (outcome u c)
+
+-- "one that invents the flush count": an end report always says 1.
+abbrev pub inventsCount : StepFunction
+inventsCount = reporting (λ report. Ended (record { status = report .status; sense = report .sense; flushes = 1 }))
+
+-- One that swallows end reports: it says that more is to come where an operation is over.
+abbrev pub swallows : StepFunction
+swallows = reporting (λ report. More)
+
+-- One that leaves the sense out of a failure's end report.
+abbrev pub mutes : StepFunction
+mutes = reporting (λ report. Ended (record { status = report .status; sense = NoSense; flushes = report .flushes }))
+
+-- One that drops every host's held sense once any host asks for its own.
+abbrev pub noneHeldIn : Unit → Unit
+noneHeldIn u = unitOf (u .drive) (u .stopped) (u .unsaved) (u .slots) (replicate 4 noneHeld) (u .out)
+
+abbrev pub dropsAllHeld : StepFunction
+dropsAllHeld u c =
+    cond (isSenseOf (λ host. true) c && isClear (verdictIn (outcome u c .said))) (leaving (noneHeldIn (outcome u c .unit)) (outcome u c)) (outcome u c)
+
+-- One that "always reports Active": the bytes are those of an Active unit. The condition is in no other buffer, so no other call is touched.
+abbrev pub alwaysActive : StepFunction
+alwaysActive u c = record {
+  said = outcome u c .said;
+  unit = outcome u c .unit;
+  buffer = outcome (withPower Active u) c .buffer;
+}
