@@ -18,10 +18,6 @@ use Rattle.digits.specs.Numerals.{glyph, numeral, pairs, digitAt, bytesT
 
 -- ---- what a text says
 
-pub said-none : (t : Text) → t .len ≡ 0 → said t ≡ []
-unfolding said
-said-none t e = rw e
-
 -- Its array has its length, in the words in which the checker gives it. The checker gives it of a parameter, as `good`.
 abbrev pub Whole : Text → Type 0
 Whole t = length (map (λ (b : ℕ). b) (t .bytes)) ≡ 128

@@ -3,10 +3,9 @@ use mathlib.Core.Path.{_≡_, refl, ap, _∙_}
 use mathlib.Core.List.{List, map, map-id}
 use Prim.Native.Nat.{ℕ}
 use Rattle.rows.proofs.Mapped.{map-mapAt}
-use Rattle.conditions.specs.declared.Power.{Power}
 use Rattle.drive.specs.declared.Drive.{Drive}
 use Rattle.drive.specs.declared.Made.{Made}
-use Rattle.drive.specs.Drives.{makerOf, entered, restarted, ticked, used, savedRestored, poweredOn, madeRecord, made}
+use Rattle.drive.specs.Drives.{makerOf, ticked, used, savedRestored, poweredOn, madeRecord, made}
 use Rattle.drive.proofs.Ticks.{tick-records}
 
 -- A drive that is made shows what its maker said.
@@ -17,14 +16,6 @@ maker-made ms = map-mapAt madeRecord (λ m. m) makerOf (λ i m. refl) ms ∙ map
 -- A tick leaves what the maker said.
 pub maker-ticked : (top : ℕ) (d : Drive) → map makerOf (ticked top d .records) ≡ map makerOf (d .records)
 maker-ticked top d = ap (map makerOf) (tick-records top d)
-
--- A restart of the idle count leaves it.
-pub maker-restarted : (d : Drive) → map makerOf (restarted d .records) ≡ map makerOf (d .records)
-maker-restarted d = refl
-
--- A change of condition leaves it.
-pub maker-entered : (p : Power) (d : Drive) → map makerOf (entered p d .records) ≡ map makerOf (d .records)
-maker-entered p d = refl
 
 -- A use of the medium leaves it.
 pub maker-used : (d : Drive) → map makerOf (used d .records) ≡ map makerOf (d .records)

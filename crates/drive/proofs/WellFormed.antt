@@ -174,10 +174,6 @@ module _ (top : ℕ) (d : Drive) (fine : driveWellFormed top d ≡ true) where
   pub drive-five : length (d .records) ≡ 5
   drive-five = records-five top (d .records) drive-records
 
-  -- Each of them is well formed.
-  pub drive-each : (z : Record) (i : ℕ) → i < 5 → recordWellFormed top (getD (d .records) i z) ≡ true
-  drive-each z = records-apart top z (d .records) drive-records .each
-
   -- The idle count is at most the largest.
   pub drive-idle : d .idle .0 ≤ top
   drive-idle = drive-apart top d fine .idle

@@ -18,7 +18,7 @@ use Rattle.outcomes.specs.declared.Called.{Called}
 use Rattle.unit.specs.declared.Unit.{Unit}
 use Rattle.outcomes.specs.Settled.{settled}
 
--- ---- REQUEST SENSE
+-- ---- a lent buffer
 
 -- What a call on a lent buffer leaves: its answer with the record, and the buffer.
 pub record Filled : Type 0 where
@@ -29,6 +29,8 @@ pub record Filled : Type 0 where
 abbrev pub filled : Unit → Unit → List ℕ → List ℕ → Verdict → Filled
 filled u effect bytes buffer Clear = record { called = settled u effect Clear; buffer = bytes }
 filled u effect bytes buffer (Given r) = record { called = settled u effect (Given r); buffer = buffer }
+
+-- ---- REQUEST SENSE
 
 abbrev pub senseRows : Unit → ℕ → List ℕ → List Row
 senseRows u host buffer = rowsOfSense (length buffer) host (wellFormed u) (isOut (u .out))

@@ -1,5 +1,5 @@
 -- A loop that writes a whole row, one place a turn: after i turns the first i places are done and the others stand as they stood.
-use mathlib.Core.Path.{_≡_, refl, ap}
+use mathlib.Core.Path.{_≡_, ap}
 use mathlib.Core.List.{List, [], _∷_, _++_, append-nil}
 use Prim.Native.Nat.{ℕ, zero, suc, _+_, _<_, _≤_}
 use native.Mathlib.Numerals.{add-one}
@@ -12,9 +12,6 @@ use Rattle.rows.specs.Rows.{mapAt}
 module _ {A B : Type 0} (f : ℕ → A → B) where
   abbrev pub done : List A → List B → ℕ → List B
   done l out i = mapAt f 0 (take i l) ++ drop i out
-
-  pub done-none : (l : List A) (out : List B) → done l out 0 ≡ out
-  done-none l out = refl
 
   more-at : (at : ℕ) (l : List A) (out : List B) (i : ℕ) (z : A) → length out ≡ length l → i < length l
       → set (mapAt f at (take i l) ++ drop i out) i (f (at + i) (getD l i z)) ≡ mapAt f at (take (suc i) l) ++ drop (suc i) out

@@ -9,7 +9,6 @@ use Prim.Native.Nat.{ℕ}
 use lib.Dec.{eqb}
 use lib.ListN.{set}
 use Rattle.rows.specs.Rows.{mapAt}
-use Rattle.drive.specs.Records.{largest}
 use Rattle.drive.specs.Drives.{restarted, ticked, used, savedRestored}
 use Rattle.drive.specs.declared.Drive.{Drive}
 use Rattle.drive.proofs.Ticks.{tick-records}
@@ -186,22 +185,22 @@ module _ (past : List Deed) (u v : Unit) (fine : wellFormed u ≡ true) (same : 
   tick-clear = clear-when (tickRows v) (rw (same .fine))
 
   -- With a command out something waits, so only the records are compared.
-  ticked-same : (b : Bool) → isOut (u .out) ≡ b → wellFormed (withDrive (ticked (largestOf u) (v .drive)) v) ≡ true
-      → Same (cond b u (withDrive (ticked (largestOf u) (u .drive)) u)) (withDrive (ticked (largestOf u) (v .drive)) v)
+  ticked-same : (b : Bool) → isOut (u .out) ≡ b → wellFormed (withDrive (ticked (largestOf v) (v .drive)) v) ≡ true
+      → Same (cond b u (withDrive (ticked (largestOf u) (u .drive)) u)) (withDrive (ticked (largestOf v) (v .drive)) v)
   ticked-same true out =
-      with-drives (u .drive) (ticked (largestOf u) (v .drive)) (tick-records largest (v .drive) ∙ same .records)
+      with-drives (u .drive) (ticked (largestOf v) (v .drive)) (tick-records (largestOf v) (v .drive) ∙ same .records)
       (λ quiet. absurd (false≢true (sym (ap isOut (quiet-out u fine quiet)) ∙ out)))
   ticked-same false out =
-      with-drives (ticked (largestOf u) (u .drive)) (ticked (largestOf u) (v .drive))
-      (tick-records largest (v .drive) ∙ same .records ∙ sym (tick-records largest (u .drive)))
+      with-drives (ticked (largestOf u) (u .drive)) (ticked (largestOf v) (v .drive))
+      (tick-records (largestOf v) (v .drive) ∙ same .records ∙ sym (tick-records (largestOf u) (u .drive)))
       (λ quiet. let (power, idle) = same .at-rest quiet in (
-        fall-alike largest (v .drive) (u .drive) (same .records) power idle,
-        count-alike largest (v .drive) (u .drive) idle,
+        fall-alike (largestOf u) (v .drive) (u .drive) (same .records) power idle,
+        count-alike (largestOf u) (v .drive) (u .drive) idle,
       ))
 
   pub ticks-on : Stands (does tick) (tickEffect u)
   ticks-on r =
-      itself tick (tickEffect u) (withDrive (ticked (largestOf u) (v .drive)) v) (λ said. refl) tick-clear (rw none-out)
+      itself tick (tickEffect u) (withDrive (ticked (largestOf v) (v .drive)) v) (λ said. refl) tick-clear (rw none-out)
       (ticked-same (isOut (u .out)) refl)
 
   epc-clear : (q : Registers) → lowest (epcRows u q) ≡ Clear → lowest (epcRows v q) ≡ Clear

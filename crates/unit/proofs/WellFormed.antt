@@ -62,7 +62,7 @@ pub record UnitFine (u : Unit) : Type 0 where
   pub out : outWellFormed (u .slots) (u .out) ≡ true
 
 -- the test of every slot says of each host that its slot is well formed
-pub each-request : (rs : List Record) (slots : List HostSlot) → everyAt (hostWellFormed rs) 0 slots ≡ true
+each-request : (rs : List Record) (slots : List HostSlot) → everyAt (hostWellFormed rs) 0 slots ≡ true
     → (host : ℕ) → slotWellFormed rs (slotOf slots host) ≡ true
 each-request rs slots = every-get (λ s. slotWellFormed rs (s .slot)) emptySlot refl 0 slots
 
