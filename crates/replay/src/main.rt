@@ -1,89 +1,45 @@
-// Reads a script of calls and writes what each answered: docs/replay.md.
-ghost use Prim.Native.Nat.{_+_, _≤_, min};
+// Reads a script of calls and writes what each answered: docs/replay.md. What is read, and what is answered when, `intake` and `stream` decide.
+ghost use Prim.Native.Nat.{_≤_};
 ghost use lib.ListN.{length};
+use intake::Source;
 use libc::STDERR_FILENO;
 use libc::STDIN_FILENO;
 use libc::STDOUT_FILENO;
-use stream::Run;
-
-// A run, whether all that it printed could be written, and whether the input is at its end.
-struct Turn {
-    run: Run,
-    is_written: bool,
-    is_last: bool,
-}
 
 // Writes out the first n bytes; false if that cannot be done.
-fn print(out: &[u8], n: usize) -> bool
+fn print(out: &[u8; 16384], n: usize) -> bool
     requires { ⌜ n ≤ length (now out) ⌝ }
 {
-    io::write_all(STDOUT_FILENO, &out[..n])
+    let all: &[u8] = out;
+    io::write_all(STDOUT_FILENO, &all[..n])
 }
 
-// Answers the lines of what was read until `out` fills up, and writes that out.
-fn answer_some(r: Run, input: &[u8], line: &mut [u8; 4001], out: &mut [u8; 16384]) -> Turn
-    ensures { λ t. ⌜ min (r .from + 1) (length (now (input .entry))) ≤ t .run .from ⌝ }
-{
-    let run = stream::feed(r, input, line, out);
-    let is_written = print(out, run.at);
-    Turn {
-        run,
-        is_written,
-        is_last: false,
-    }
+// Reads once, if that is asked.
+fn read_if(asked: bool, fd: i32, input: &mut [u8; 65536]) -> isize {
+    if asked { libc::read(fd, input) } else { 0 }
 }
 
-// Answers all that was read, unless it cannot be written.
-fn answer_all(r: Run, input: &[u8], line: &mut [u8; 4001], out: &mut [u8; 16384]) -> Turn {
-    let mut run = r;
-    run.from = 0;
-    let mut turn = Turn {
-        run,
-        is_written: true,
-        is_last: input.len() == 0,
-    };
-    while (turn.run.from < input.len()) & turn.is_written {
-        turn = answer_some(turn.run, input, line, out);
-    }
-    turn
-}
-
-// Reads once, and answers what came.
-fn answer_next(fd: i32, r: Run, line: &mut [u8; 4001], out: &mut [u8; 16384]) -> Turn {
-    let mut input = io::large_buffer();
-    let got = libc::read(fd, &mut input);
-    let n = io::count(got, &input);
-    answer_all(r, &input[..n], line, out)
-}
-
-// The end of the input: answers a last line without LF.
-fn end(r: Run, line: &[u8; 4001], out: &mut [u8; 16384]) {
-    let n = stream::finish(r, line, out);
-    print(out, n);
-}
-
-// A proved loop has to end, and nothing says that the input does: so the turns are counted down, from a number that no run uses up.
+// The answers are written before it waits for input. A proved loop has to end, and nothing says that the input does: so the turns are counted
+// down, from a number that no run uses up.
 fn replay(fd: i32) {
+    let mut input = io::large_buffer();
     let mut line = [0u8; 4001];
     let mut out = [0u8; 16384];
-    let mut turn = Turn {
-        run: stream::start(),
-        is_written: true,
-        is_last: false,
-    };
+    let mut turn = stream::start();
     let mut turns = u64::MAX;
-    while (turns > 0) & turn.is_written & !turn.is_last {
-        turn = answer_next(fd, turn.run, &mut line, &mut out);
+    while (turns > 0) & turn.goes {
+        let written = print(&out, turn.run.at);
+        let asked = written & intake::is_answered(turn.run.from, turn.to);
+        let got = read_if(asked, fd, &mut input);
+        turn = stream::go_on(turn, written, got, &input, &mut line, &mut out);
         turns -= 1;
     }
-    if turn.is_written {
-        end(turn.run, &line, &mut out);
-    }
+    print(&out, turn.run.at);
 }
 
-fn replay_file() {
+fn replay_file(argument: usize) {
     let mut path = io::large_buffer();
-    let n = os::arg(1, &mut path);
+    let n = os::arg(argument, &mut path);
     let fd = os::open_read(&path[..n]);
     if fd < 0 {
         io::write_all(STDERR_FILENO, b"replay: cannot open ");
@@ -96,11 +52,11 @@ fn replay_file() {
 }
 
 fn main() {
-    match os::arg_count() {
-        0 => replay(STDIN_FILENO),
-        1 => replay(STDIN_FILENO),
-        2 => replay_file(),
-        _ => {
+    let source = intake::source_by(os::arg_count());
+    match source {
+        Source::Standard => replay(STDIN_FILENO),
+        Source::File(argument) => replay_file(argument),
+        Source::Misused => {
             io::write_all(
                 STDERR_FILENO,
                 b"usage: replay [FILE]: reads a script from FILE, or from standard input\n",

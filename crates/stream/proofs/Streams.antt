@@ -12,11 +12,11 @@ use lib.Seq.{take-all, take-add, take-suc, drop-drop}
 use Rattle.words.specs.Lines.{beforeFeed}
 use Rattle.digits.specs.Sheets.{joined}
 use Rattle.replies.specs.Lines.{response, okOrError}
-use Rattle.stream.specs.Streams.{Stream, answered, keepsByte, fed, fedAll, finished, unfed, emptied, writtenOut, InPieces, bytesBetween}
+use Rattle.stream.specs.Streams.{Stream, answered, keepsByte, fed, fedAll, finished, emptied, bytesBetween}
 
 -- ---- piece by piece
 
-fed-pieces : (s : Stream) (a b : List ℕ) → fedAll s (a ++ b) ≡ fedAll (fedAll s a) b
+pub fed-pieces : (s : Stream) (a b : List ℕ) → fedAll s (a ++ b) ≡ fedAll (fedAll s a) b
 unfolding fedAll
 fed-pieces s [] b = refl
 fed-pieces s (x ∷ a) b = fed-pieces (fed s x) a b
@@ -89,7 +89,7 @@ module _ (s : Stream) (l : List ℕ) (from end : ℕ) (e : end ≡ from + before
       let less : beforeFeed (drop from l) < length (drop from l) = rw length-drop (omega arith) in
       rw (one, spanned, take-suc (drop from l) (beforeFeed (drop from l)) 0 less, fed-pieces, at-feed (drop from l) less)
 
--- ---- written out piece by piece
+-- ---- written out on the way
 
 -- a stream that had printed this before
 abbrev behind : List ℕ → Stream → Stream
@@ -110,7 +110,7 @@ only-adds s bs =
     let whole : behind (s .printed) (emptied s) ≡ s = rw append-nil in
     ap (λ t. fedAll t bs) (sym whole) ∙ fed-behind (s .printed) (emptied s) bs
 
-finished-behind : (s : Stream) → s .printed ++ finished (emptied s) ≡ finished s
+pub finished-behind : (s : Stream) → s .printed ++ finished (emptied s) ≡ finished s
 finished-behind s = on (response (s .session) (s .kept) .session .is_open)
   where
     answer : List ℕ
@@ -123,21 +123,11 @@ finished-behind s = on (response (s .session) (s .kept) .session .is_open)
     on true = rw append-assoc
     on false = refl
 
--- what is written out next does not hang on what was printed before
-next-out : (front : List ℕ) (s : Stream) (pieces : List (List ℕ)) → writtenOut s pieces ≡ writtenOut (behind front s) pieces
-next-out front s [] = refl
-next-out front s (piece ∷ more) = refl
-
-written-out : (s : Stream) (pieces : List (List ℕ)) → s .printed ++ writtenOut s pieces ≡ finished (fedAll s (joined pieces))
-unfolding fedAll
-written-out s [] = finished-behind s
-written-out s (piece ∷ more) =
-    let t = fedAll (emptied s) piece in
-    sym (append-assoc (s .printed) (t .printed) (writtenOut t more))
-    ∙ ap (_++_ (s .printed ++ t .printed)) (next-out (s .printed) t more)
-    ∙ written-out (behind (s .printed) t) more
-    ∙ ap (λ u. finished (fedAll u (joined more))) (sym (only-adds s piece))
-    ∙ ap finished (sym (fed-pieces s piece (joined more)))
-
-pub in-pieces : InPieces
-in-pieces pieces = written-out unfed pieces
+-- and so does what is written out behind it
+pub written-on : (s : Stream) (bs : List ℕ) → s .printed ++ finished (fedAll (emptied s) bs) ≡ finished (fedAll s bs)
+written-on s bs =
+    let t = fedAll (emptied s) bs in
+    ap (_++_ (s .printed)) (sym (finished-behind t))
+    ∙ sym (append-assoc (s .printed) (t .printed) (finished (emptied t)))
+    ∙ finished-behind (behind (s .printed) t)
+    ∙ ap finished (sym (only-adds s bs))

@@ -1,5 +1,4 @@
 -- The format page, "Lines and words": what a script prints, byte by byte, so that nothing hangs on the pieces it comes in. Assumes nothing.
-use mathlib.Core.Path.{_≡_}
 use mathlib.Core.Bool.{false, cond}
 use mathlib.Core.List.{List, [], _∷_, _++_}
 use Prim.Native.Char.{code}
@@ -52,20 +51,9 @@ unfed = record { session = startSession; kept = []; printed = [] }
 abbrev pub printedBy : List ℕ → List ℕ
 printedBy script = finished (fedAll unfed script)
 
--- ---- in pieces
-
 -- What was printed has been written out.
 abbrev pub emptied : Stream → Stream
 emptied s = record { session = s .session; kept = s .kept; printed = [] }
-
--- What is written out for a script that comes in pieces: after each of them what it printed, and at the end the rest.
-abbrev pub writtenOut : Stream → List (List ℕ) → List ℕ
-writtenOut s [] = finished (emptied s)
-writtenOut s (piece ∷ more) = fedAll (emptied s) piece .printed ++ writtenOut (fedAll (emptied s) piece) more
-
--- That is what the whole script prints, in whatever pieces it comes.
-abbrev pub InPieces : Type 0
-InPieces = (pieces : List (List ℕ)) → writtenOut unfed pieces ≡ printedBy (joined pieces)
 
 -- ---- the code's run
 

@@ -1,9 +1,10 @@
-// The script as a stream of bytes, in whatever pieces it comes.
+// The script as a stream of bytes, in whatever pieces it comes, and the turns in which the program reads, answers and writes it.
 ghost use mathlib.Core.Path.{_≡_};
 ghost use Prim.Native.Nat.{_+_, _≤_, _<_, min};
 ghost use lib.ListN.{length, take};
-ghost use Rattle.blocks.specs.Sessions.{startSession};
-ghost use Rattle.stream.specs.Streams.{streamOf, answered, fedAll, finished, emptied, bytesBetween};
+ghost use Rattle.intake.specs.Intake.{clamped};
+ghost use Rattle.stream.specs.Streams.{streamOf, answered, fedAll, finished, bytesBetween};
+ghost use Rattle.stream.specs.Turns.{Turned, Starts, standingOf};
 use blocks::Session;
 
 // Where a run of a script stands: its session, how many bytes of an unended line are kept, how far `out` is written and the input read.
@@ -14,16 +15,27 @@ pub struct Run {
     pub from: usize,
 }
 
-// A run that starts.
-pub fn start() -> Run
-    ensures { λ r. ⌜ (r .session ≡ startSession) × (r .len ≡ 0) × (r .at ≡ 0) × (r .from ≡ 0) ⌝ }
+// Where the program stands before a turn: its run, up to where the input buffer holds what was read, and whether it goes on.
+pub struct Turn {
+    pub run: Run,
+    pub to: usize,
+    pub goes: bool,
+}
+
+pub fn start() -> Turn
+    ensures { λ t. ⌜ Starts t ⌝ }
 {
     let session = blocks::start();
-    Run {
+    let run = Run {
         session,
         len: 0,
         at: 0,
         from: 0,
+    };
+    Turn {
+        run,
+        to: 0,
+        goes: true,
     }
 }
 
@@ -32,9 +44,8 @@ fn end_line(r: Run, line: &[u8], out: &mut [u8]) -> Run
     requires { ⌜ r .at + 4096 ≤ length (now out) ⌝ }
     ensures { λ e. ⌜ (streamOf e (now (line .entry)) (now (out .exit)) ≡ answered (streamOf r (now (line .entry)) (now (out .entry)))) × (e .from ≡ r .from) × (e .at ≤ r .at + 4096) ⌝ }
 {
-    let session = r.session;
     let n = words::smaller(r.len, line.len());
-    let step = replies::respond(session, &line[..n], out, r.at);
+    let step = replies::respond(r.session, &line[..n], out, r.at);
     let next = step.session;
     Run {
         session: next,
@@ -51,64 +62,77 @@ fn feed_line(r: Run, input: &[u8], line: &mut [u8], out: &mut [u8]) -> Run
     requires { ⌜ r .at + 4096 ≤ length (now out) ⌝ }
     ensures { λ e. ⌜ (streamOf e (now (line .exit)) (now (out .exit)) ≡ fedAll (streamOf r (now (line .entry)) (now (out .entry))) (bytesBetween (r .from) (e .from) (now (input .entry)))) × (r .from < e .from) × (e .from ≤ length (now (input .entry))) × (e .at ≤ length (now (out .exit))) ⌝ }
 {
-    let session = r.session;
     let from = r.from;
     let end = words::line_end(input, from);
-    let len = words::append(line, r.len, &input[from..end]);
+    let mut run = r;
+    run.len = words::append(line, r.len, &input[from..end]);
+    run.from = end;
     if end == input.len() {
-        return Run {
-            session,
-            len,
-            at: r.at,
-            from: end,
-        };
+        return run;
     }
-    let next = end + 1;
-    let kept = Run {
-        session,
-        len,
-        at: r.at,
-        from: next,
-    };
-    end_line(kept, line, out)
+    run.from = end + 1;
+    end_line(run, line, out)
 }
 
 // Goes on from `r.from` to the end of the input, or until `out`, which is written from its start, may have no room for another answer.
-pub fn feed(r: Run, input: &[u8], line: &mut [u8], out: &mut [u8]) -> Run
+fn feed(r: Run, input: &[u8], line: &mut [u8], out: &mut [u8]) -> Run
+    requires { ⌜ r .at ≡ 0 ⌝ }
     requires { ⌜ length (now line) ≡ 4001 ⌝ }
     requires { ⌜ 4096 ≤ length (now out) ⌝ }
-    ensures { λ e. ⌜ (streamOf e (now (line .exit)) (now (out .exit)) ≡ fedAll (emptied (streamOf r (now (line .entry)) (now (out .entry)))) (bytesBetween (r .from) (e .from) (now (input .entry)))) × (r .from ≤ e .from) × (min (r .from + 1) (length (now (input .entry))) ≤ e .from) × (e .at ≤ length (now (out .exit))) ⌝ }
+    ensures { λ e. ⌜ (streamOf e (now (line .exit)) (now (out .exit)) ≡ fedAll (streamOf r (now (line .entry)) (now (out .entry))) (bytesBetween (r .from) (e .from) (now (input .entry)))) × (r .from ≤ e .from) × (min (r .from + 1) (length (now (input .entry))) ≤ e .from) × (e .at ≤ length (now (out .exit))) ⌝ }
 {
     let room = out.len() - 4096;
-    let session = r.session;
-    let mut run = Run {
-        session,
-        len: r.len,
-        at: 0,
-        from: r.from,
-    };
+    let mut run = r;
     while (run.from < input.len()) & (run.at <= room) {
         run = feed_line(run, input, line, out);
     }
     run
 }
 
-// The end of the input; `out` is written from its start.
-pub fn finish(r: Run, line: &[u8], out: &mut [u8]) -> usize
-    requires { ⌜ 8192 ≤ length (now out) ⌝ }
-    ensures { λ n. ⌜ (take n (now (out .exit)) ≡ finished (emptied (streamOf r (now (line .entry)) (now (out .entry))))) × (n ≤ length (now (out .exit))) ⌝ }
+// The end of the input.
+fn finish(r: Run, line: &[u8], out: &mut [u8]) -> usize
+    requires { ⌜ r .at + 8192 ≤ length (now out) ⌝ }
+    ensures { λ n. ⌜ (take n (now (out .exit)) ≡ finished (streamOf r (now (line .entry)) (now (out .entry)))) × (n ≤ length (now (out .exit))) ⌝ }
 {
-    let session = r.session;
-    let empty = Run {
-        session,
-        len: r.len,
-        at: 0,
-        from: r.from,
-    };
-    let last = end_line(empty, line, out);
-    let next = last.session;
-    if next.is_open {
+    let last = end_line(r, line, out);
+    if last.session.is_open {
         return replies::put_ok(false, out, last.at);
     }
     last.at
+}
+
+// A turn of the program, which has written out what was printed and then, if all that it had read was answered, has read: it is told whether
+// all could be written and what `read` answered. It answers what came, until `out` fills up. If nothing came, the script is at its end.
+pub fn go_on(
+    t: Turn,
+    written: bool,
+    got: isize,
+    input: &[u8; 65536],
+    line: &mut [u8; 4001],
+    out: &mut [u8; 16384],
+) -> Turn
+    requires { ⌜ t .to ≤ 65536 ⌝ }
+    ensures { λ e. ⌜ Turned (standingOf t (now (input .entry)) (now (line .entry)) (now (out .entry))) written (take (clamped got 65536) (now (input .entry))) (standingOf e (now (input .entry)) (now (line .exit)) (now (out .exit))) × (e .to ≤ 65536) × (e .run .at ≤ length (now (out .exit))) ⌝ }
+{
+    let pace = intake::pace_next(t.run.from, t.to, written, got, 65536);
+    let to = pace.to;
+    let mut run = t.run;
+    run.at = 0;
+    run.from = pace.from;
+    if pace.goes {
+        let all: &[u8] = input;
+        let fed = feed(run, &all[..to], line, out);
+        return Turn {
+            run: fed,
+            to,
+            goes: true,
+        };
+    }
+    let n = finish(run, line, out);
+    run.at = intake::to_write(written, n);
+    Turn {
+        run,
+        to: 0,
+        goes: false,
+    }
 }

@@ -14,7 +14,7 @@ use Rattle.stream.proofs.end_line.Statement.{statement}
 use Rattle.stream.proofs.end_line.Tie as tie
 
 -- as many bytes are lent as are kept
-within : (a : tie.After-smaller) → a .smaller .result ≤ length (now (a .before .before .before .before .args .line))
+within : (a : tie.After-smaller) → a .smaller .result ≤ length (now (a .before .before .before .args .line))
 within a = omega (arith, a .smaller .ensures)
 
 smaller-requires : tie.Need-smaller-requires
@@ -23,7 +23,7 @@ smaller-requires c κs = search needs
 slice-aggregate-respond : tie.Need-slice-aggregate-respond
 slice-aggregate-respond c =
     let a = c .before in
-    sym (length-take-le (a .smaller .result) (now (a .before .before .before .before .args .line)) (within a))
+    sym (length-take-le (a .smaller .result) (now (a .before .before .before .args .line)) (within a))
 
 respond-requires : tie.Need-respond-requires
 respond-requires c κs = search needs
@@ -34,7 +34,7 @@ same-length c = search needs
 returns : tie.Need-returns
 returns c =
     let a = c .before .before .before .before .before .before in
-    let start = a .before .before .before .before in
+    let start = a .before .before .before in
     let r = start .args .r in
     let line = now (start .args .line) in
     let kept : take (a .smaller .result) line ≡ take (r .len) line = rw (a .smaller .ensures) (sym (take-min (r .len) line)) in

@@ -9,7 +9,7 @@ use borrow.Author.Tests.{leb-true, leb-false, ltb-true, ltb-false}
 use lib.Dec.{ltb, leb}
 use lib.ListN.{length}
 use denote.Ref.{now}
-use Rattle.stream.specs.Streams.{streamOf, fedAll, emptied, bytesBetween}
+use Rattle.stream.specs.Streams.{streamOf, fedAll, bytesBetween}
 use Rattle.stream.proofs.Streams.{fed-on}
 use Rattle.stream.proofs.feed.Statement.{statement}
 use Rattle.stream.proofs.feed.Tie as tie
@@ -26,11 +26,11 @@ abbrev μ-loop : tie.MeasureT-loop
 μ-loop input line₀ out₀ room run₀ line out run = length input - run .from
 
 -- the two halves of the loop's test
-goes : (a : tie.Then1 Inv-loop μ-loop) → let at = a .before .before .before in let start = at .before .before .before .before .before .args in
+goes : (a : tie.Then1 Inv-loop μ-loop) → let at = a .before .before .before in let start = at .before .before .before .before .args in
     (at .loop .run .from < length (now (start .input))) × (at .loop .run .at ≤ length (now (start .out)) - 4096)
 goes a =
     let at = a .before .before .before in
-    let start = at .before .before .before .before .before .args in
+    let start = at .before .before .before .before .args in
     let both = and-eq-true-iff (ltb (at .loop .run .from) (length (now (start .input)))) _ .0 (a .if1 .taken) in
     (ltb-true _ _ (both .0), leb-true _ _ (both .1))
 
@@ -60,9 +60,9 @@ loop-again c =
     let fed = c .before .before .before .before in
     let next = fed .feed-line in
     let at = fed .before .before .before .before .before .before in
-    let start = at .before .before .before .before .before .args in
+    let start = at .before .before .before .before .args in
     let input = now (start .input) in
-    let s = emptied (streamOf (start .r) (now (start .line)) (now (start .out))) in (
+    let s = streamOf (start .r) (now (start .line)) (now (start .out)) in (
       fed-on s input (start .r .from) (at .loop .run .from) (next .result .from) (omega arith) (omega arith) (at .loop .inv .0) (next .ensures .0),
       omega arith,
       omega arith,
@@ -79,7 +79,7 @@ same-length-2 c = c .before .before .before .loop .inv .4
 returns : tie.Need-returns Inv-loop μ-loop
 returns c =
     let a = c .before .before .before in
-    let start = a .before .before .before .before .before .args in
+    let start = a .before .before .before .before .args in
     let i = a .loop .inv in
     (i .0, omega arith, goes-on (start .r .from) (a .loop .run .from) (a .loop .run .at) (length (now (start .input))) _ (i .1) (c .if1 .left), omega arith)
 

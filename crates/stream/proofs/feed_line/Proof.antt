@@ -13,20 +13,20 @@ use Rattle.stream.proofs.feed_line.Statement.{statement}
 use Rattle.stream.proofs.feed_line.Tie as tie
 
 -- a line's end is within the input
-within : (a : tie.After-line-end) → a .line-end .result ≤ length (now (a .before .before .before .before .before .args .input))
+within : (a : tie.After-line-end) → a .line-end .result ≤ length (now (a .before .before .before .before .args .input))
 within a =
-    let start = a .before .before .before .before .before in
+    let start = a .before .before .before .before in
     rw (a .line-end .ensures) (scan-within feed (now (start .args .input)) (start .args .r .from) (omega arith))
 
 -- what is kept is what the bytes before the line's end leave
-grows : (a : tie.After-append) → let e = a .before .before .before in let start = e .before .before .before .before .before .args in
+grows : (a : tie.After-append) → let e = a .before .before .before in let start = e .before .before .before .before .args in
     _≡_
     (record { session = start .r .session; kept = take (a .append .result) (a .append .last .0); printed = take (start .r .at) (now (start .out)) })
     (fedAll (streamOf (start .r) (now (start .line)) (now (start .out)))
     (bytesBetween (start .r .from) (e .line-end .result) (now (start .input))))
 grows a =
     let e = a .before .before .before in
-    let start = e .before .before .before .before .before in
+    let start = e .before .before .before .before in
     let s = streamOf (start .args .r) (now (start .args .line)) (now (start .args .out)) in
     let more = bytesBetween (start .args .r .from) (e .line-end .result) (now (start .args .input)) in
     let kept : take (a .append .result) (a .append .last .0) ≡ take 4001 (s .kept ++ more) = rw (start .pre .1 .0) at (a .append .ensures .0) in
@@ -58,8 +58,8 @@ same-length c = search needs
 returns : tie.Need-returns
 returns c = (grows (c .before .before .before), omega arith, omega arith, omega arith)
 
-add-next : tie.Need-add-next
-add-next c = omega (arith, within (c .before .before .before .before .before .before))
+add-run : tie.Need-add-run
+add-run c = omega (arith, within (c .before .before .before .before .before .before))
 
 end-line-requires : tie.Need-end-line-requires
 end-line-requires c κs = search needs
@@ -75,7 +75,7 @@ returns-2 c =
     let ended = c .before .before .end-line .ensures in
     let a = appended (c .before .before) in
     let e = a .before .before .before in
-    let start = e .before .before .before .before .before .args in
+    let start = e .before .before .before .before .args in
     let s = streamOf (start .r) (now (start .line)) (now (start .out)) in
     let inside = within e in (
       rw (ended .1)
@@ -98,7 +98,7 @@ feed-line-spec =
     append-requires
     same-length
     returns
-    add-next
+    add-run
     end-line-requires
     same-length-2
     same-length-3

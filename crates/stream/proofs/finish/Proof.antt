@@ -22,7 +22,7 @@ same-length c = search needs
 returns : tie.Need-returns
 returns c =
     let a = c .before .before .before .before in
-    let last = a .before .before .before .before .end-line in
+    let last = a .before .before .before .end-line in
     let put = c .before .before .put-ok in
     let has = room (okOrError false) (last .last .1 .1 .0) (last .result .at) (put .ensures) (omega (arith, ok-fits false)) in
     (rw (← ap closedOff (last .ensures .0), a .if1 .taken) (has .2), omega (arith, ok-fits false, has .0, has .1))
@@ -31,7 +31,7 @@ same-length-2 : tie.Need-same-length-2
 same-length-2 c = search needs
 
 returns-2 : tie.Need-returns-2
-returns-2 c = (rw (← ap closedOff (c .before .before .before .before .end-line .ensures .0), c .if1 .left), omega arith)
+returns-2 c = (rw (← ap closedOff (c .before .before .before .end-line .ensures .0), c .if1 .left), omega arith)
 
 pub finish-spec : {M : Type 1} → statement M
 finish-spec =
