@@ -1,1 +1,4 @@
+pub mod Decision
+pub mod Listed
 pub mod Requests
+pub mod Reserved

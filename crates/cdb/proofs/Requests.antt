@@ -21,6 +21,7 @@ use Rattle.requests.specs.declared.Stage.{Stage}
 use Rattle.requests.specs.declared.Stage.the-variants.{Straight, Flushing}
 use Rattle.requests.specs.declared.Request.{Request}
 use Rattle.cdb.specs.Cdb.{byte, immed, modifier, powerCondition, noFlush, loej, start, reservedInCdb, decided, wanted, fits, isListed, stageFor, requestFor}
+use Rattle.cdb.proofs.Decision.{numberFor, modifierFor, startFor, asked-decides}
 use Rattle.cdb.specs.declared.Wanted.{Wanted}
 use Rattle.cdb.specs.declared.Wanted.the-variants.{Wants, Unlisted}
 
@@ -120,39 +121,15 @@ module _ (immediate : Bool) (m number : ℕ) (without starts : Bool) (m-small : 
 
 -- ---- the CDB of a request
 
--- The table of document 01, from what is wanted to the fields that ask for it: power condition, modifier, START.
-abbrev numberFor : Target → ℕ
-numberFor Stop = 0
-numberFor Start = 0
-numberFor (GoTo IdleA) = 2
-numberFor (GoTo IdleB) = 2
-numberFor (GoTo IdleC) = 2
-numberFor (GoTo StandbyY) = 3
-numberFor (GoTo StandbyZ) = 3
-
-abbrev modifierFor : Target → ℕ
-modifierFor Stop = 0
-modifierFor Start = 0
-modifierFor (GoTo IdleA) = 0
-modifierFor (GoTo IdleB) = 1
-modifierFor (GoTo IdleC) = 2
-modifierFor (GoTo StandbyY) = 1
-modifierFor (GoTo StandbyZ) = 0
-
-abbrev startFor : Target → Bool
-startFor Stop = false
-startFor Start = true
-startFor (GoTo c) = false
-
--- The fields fit their bits, and the decision reads the target back.
-decides : (t : Target) → (modifierFor t < 16) × (numberFor t < 16) × (decided (numberFor t) (modifierFor t) false (startFor t) ≡ Wants t)
-decides Stop = (omega arith, omega arith, refl)
-decides Start = (omega arith, omega arith, refl)
-decides (GoTo IdleA) = (omega arith, omega arith, refl)
-decides (GoTo IdleB) = (omega arith, omega arith, refl)
-decides (GoTo IdleC) = (omega arith, omega arith, refl)
-decides (GoTo StandbyY) = (omega arith, omega arith, refl)
-decides (GoTo StandbyZ) = (omega arith, omega arith, refl)
+-- The fields fit their bits.
+fields-fit : (t : Target) → (modifierFor t < 16) × (numberFor t < 16)
+fields-fit Stop = omega arith
+fields-fit Start = omega arith
+fields-fit (GoTo IdleA) = omega arith
+fields-fit (GoTo IdleB) = omega arith
+fields-fit (GoTo IdleC) = omega arith
+fields-fit (GoTo StandbyY) = omega arith
+fields-fit (GoTo StandbyZ) = omega arith
 
 abbrev isStraight : Stage → Bool
 isStraight Straight = true
@@ -204,12 +181,12 @@ pub request-asked : (rs : List Record) (q : Request) → requestWellFormed rs (q
 unfolding isListed
 request-asked rs q h =
     let t = q .target in
-    let d = decides t in
+    let d = fields-fit t in
     let m = modifierFor t in
     let n = numberFor t in
     let f = isStraight (q .stage) in
     let s = startFor t in
-    let asks : wanted (cdbFor q) ≡ Wants t = read-wanted (q .immed) m n f s (d .0) (d .1) ∙ d .2 in
+    let asks : wanted (cdbFor q) ≡ Wants t = read-wanted (q .immed) m n f s (d .0) (d .1) ∙ asked-decides t false s (λ z. (refl, refl)) in
     record {
       six = refl;
       bytes = rw (

@@ -7,7 +7,7 @@ use Prim.Native.Nat.{ℕ, _+_, _<_, _≤_}
 use native.Mathlib.Omega.{arith}
 use lib.Dec.{leb, ltb, eqb, leb·zero}
 use lib.ListN.{length, getD}
-use borrow.Author.Tests.{eqb-true, eq-eqb, leb-true, le-leb, ltb-true}
+use borrow.Author.Tests.{eqb-true, eqb-false, eq-eqb, ne-eqb, leb-true, le-leb, ltb-true, not-true}
 use Rattle.rows.specs.Rows.{everyAt, mapAt}
 use Rattle.rows.proofs.Places.{and-left, and-right, and-both, every-from, every-at, length-mapAt}
 use Rattle.rows.proofs.Mapped.{every-mapAt}
@@ -17,9 +17,41 @@ use Rattle.conditions.specs.declared.Power.{Power}
 use Rattle.conditions.specs.declared.Power.the-variants.{Active}
 use Rattle.drive.specs.declared.Drive.{Drive}
 use Rattle.drive.specs.declared.Made.{Made}
-use Rattle.drive.specs.Records.{largestRecovery, settingWellFormed, settingZero, othersZero, recordWellFormed, recordsWellFormed, driveWellFormed}
+use Rattle.drive.specs.Records.{largestRecovery, settingWellFormed, settingZero, othersZero, unsupported, recordWellFormed, recordsWellFormed, driveWellFormed}
 use Rattle.drive.specs.Drives.{withSettings, withRecords, withIdle, entered, restarted, counted, ticked, used, savedRestored, poweredOn, madeRecord, made}
 use Rattle.drive.proofs.Ticks.{tick-records, tick-idle}
+
+-- ---- one setting
+
+-- The parts of a well-formed setting: "no timer .. is above 65,535", "an enabled setting has a nonzero timer".
+pub record SettingFine (top : ℕ) (s : Setting) : Type 0 where
+  pub small : s .timer .0 ≤ top
+  pub nonzero : s .enabled ≡ true → s .timer .0 ≡ 0 → ⊥
+
+module _ (top : ℕ) (s : Setting) where
+  setting-apart : settingWellFormed top s ≡ true → SettingFine top s
+  setting-apart h =
+      let timer = and-right (leb (s .timer .0) top) (not (s .enabled) || not (eqb (s .timer .0) 0)) h in
+      record {
+        small = leb-true _ _ (and-left (leb (s .timer .0) top) _ h);
+        nonzero = λ on. eqb-false _ _ (not-true _ (rw on at timer));
+      }
+
+  setting-together : SettingFine top s → settingWellFormed top s ≡ true
+  setting-together p = rw (le-leb _ _ (p .small)) (on (s .enabled) (p .nonzero))
+    where
+      on : (b : Bool) → (b ≡ true → s .timer .0 ≡ 0 → ⊥) → (not b || not (eqb (s .timer .0) 0)) ≡ true
+      on true h = rw (ne-eqb _ _ (h refl))
+      on false h = refl
+
+  pub setting-fine : (settingWellFormed top s ≡ true) ↔ SettingFine top s
+  setting-fine = (setting-apart, setting-together)
+
+zero-setting : (s : Setting) → settingZero s ≡ true → s ≡ unsupported .default
+zero-setting s h =
+    let off : s .enabled ≡ false = not-true _ (and-left (not (s .enabled)) _ h) in
+    let none : s .timer .0 ≡ 0 = eqb-true _ _ (and-right (not (s .enabled)) _ h) in
+    rw (off, none)
 
 -- ---- one record
 
@@ -64,6 +96,24 @@ module _ (top : ℕ) (r : Record) where
   record-together : RecordFine top r → recordWellFormed top r ≡ true
   unfolding recordWellFormed
   record-together p = rw (le-leb _ _ (p .recovery), p .default, p .saved, p .current, p .others)
+
+  -- "an unsupported condition has every other flag and number zero": it has this record.
+  pub unsupported-is : recordWellFormed top r ≡ true → r .supported ≡ false → r ≡ unsupported
+  unsupported-is h none =
+      let zero : othersZero r ≡ true = rw none at (record-apart h .others) in
+      let kept = and-left (makerZero r && settingZero (r .saved)) (settingZero (r .current)) zero in
+      let made = and-left (makerZero r) (settingZero (r .saved)) kept in
+      let said = and-left (not (r .saveable) && not (r .changeable) && eqb (r .recovery .0) 0) (settingZero (r .default)) made in
+      let flags = and-left (not (r .saveable) && not (r .changeable)) (eqb (r .recovery .0) 0) said in
+      rw (
+        none,
+        not-true (r .saveable) (and-left (not (r .saveable)) (not (r .changeable)) flags),
+        not-true (r .changeable) (and-right (not (r .saveable)) (not (r .changeable)) flags),
+        eqb-true (r .recovery .0) 0 (and-right (not (r .saveable) && not (r .changeable)) (eqb (r .recovery .0) 0) said),
+        zero-setting (r .default) (and-right (not (r .saveable) && not (r .changeable) && eqb (r .recovery .0) 0) (settingZero (r .default)) made),
+        zero-setting (r .saved) (and-right (makerZero r) (settingZero (r .saved)) kept),
+        zero-setting (r .current) (and-right (makerZero r && settingZero (r .saved)) (settingZero (r .current)) zero),
+      )
 
   -- A record is well formed exactly if its parts are fine.
   pub record-fine : (recordWellFormed top r ≡ true) ↔ RecordFine top r

@@ -10,7 +10,7 @@ use Rattle.senses.specs.declared.Sense.{Sense}
 use Rattle.senses.specs.Senses.{powerSense}
 
 -- The qualifiers 00h to 0Ah in their order, each with what it stands for.
-abbrev qualified : List Power
+abbrev pub qualified : List Power
 qualified =
     Active
     ∷ Low IdleA Timer ∷ Low StandbyZ Timer ∷ Low IdleA Command ∷ Low StandbyZ Command
@@ -18,10 +18,12 @@ qualified =
     ∷ Low StandbyY Timer ∷ Low StandbyY Command
     ∷ []
 
-abbrev told : Sense → Power
+-- What a sense's qualifier stands for.
+abbrev pub told : Sense → Power
 told s = getD qualified (s .ascq) Active
 
-told-back : (p : Power) → told (powerSense p) ≡ p
+-- The qualifier of each condition and cause is the document's.
+pub told-back : (p : Power) → told (powerSense p) ≡ p
 told-back Active = refl
 told-back (Low IdleA Timer) = refl
 told-back (Low IdleA Command) = refl
