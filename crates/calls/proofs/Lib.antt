@@ -1,10 +1,14 @@
+pub mod Answers
 pub mod Examples
+pub mod Facts
 pub mod Hosts
 pub mod KindsDiffer
+pub mod Leaves
 pub mod Maker
 pub mod Numbers
 pub mod OneResult
 pub mod Out
 pub mod Progress
+pub mod Reserved
 pub mod Steps
 pub mod WellFormed

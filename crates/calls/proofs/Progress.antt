@@ -90,7 +90,7 @@ module _ (u : Unit) (fine : wellFormed u ≡ true) (host : ℕ) (q : Request) (w
   unfolding lowest
   answer-clear out = rw (le-ltb 3 host (omega (arith, host-below)), fine, out, eq-eqb host host refl)
 
-  answer-taken : u .out ≡ OutFor host → (reply : Reply) → answerOutcome u host reply ≡ answeredFor u host q reply
+  pub answer-taken : u .out ≡ OutFor host → (reply : Reply) → answerOutcome u host reply ≡ answeredFor u host q reply
   unfolding answerOutcome
   answer-taken out reply = rw (answer-clear out, waiting)
 

@@ -1,4 +1,5 @@
 pub mod Calls
 pub mod Described
 pub mod Examples
+pub mod Facts
 pub mod Table

@@ -1,0 +1,241 @@
+-- Values of document 01 that stand in one definition each, said again on a call: a table of facts beside the marked examples, under one statement of
+-- any step function. Each row is a run from a record, and what its last outcome shows.
+use mathlib.Core.Bool.{true, false}
+use mathlib.Core.List.{List, [], _∷_}
+use mathlib.Core.Path.{_≡_}
+use Prim.Native.Nat.{ℕ}
+use lib.ListN.{replicate}
+use Rattle.conditions.specs.declared.Condition.the-variants.{IdleA, StandbyY, StandbyZ}
+use Rattle.conditions.specs.declared.Cause.the-variants.{Command}
+use Rattle.conditions.specs.declared.Power.{Power}
+use Rattle.conditions.specs.declared.Power.the-variants.{Active, Low}
+use Rattle.drive.specs.Drives.{madeRecord}
+use Rattle.drive.specs.declared.Setting.{Setting}
+use Rattle.drive.specs.declared.Record.{Record}
+use Rattle.drive.specs.declared.Made.{Made}
+use Rattle.refusals.specs.Refusals.{numberOf, senseOf}
+use Rattle.refusals.specs.declared.Answer.the-variants.{Done}
+use Rattle.refusals.specs.declared.SenseDue.{SenseDue}
+use Rattle.refusals.specs.declared.SenseDue.the-variants.{NoSense, WithSense}
+use Rattle.refusals.specs.declared.Verdict.{Verdict}
+use Rattle.refusals.specs.declared.Verdict.the-variants.{Clear, Given}
+use Rattle.unit.specs.Units.{withPower, withMarks, withSlot, withOut, blank}
+use Rattle.unit.specs.declared.Slot.the-variants.{Waiting}
+use Rattle.unit.specs.declared.Out.the-variants.{OutFor}
+use Rattle.unit.specs.declared.Unit.{Unit}
+use Rattle.operations.specs.declared.Status.the-variants.{GoodStatus, CheckCondition}
+use Rattle.operations.specs.declared.Progress.the-variants.{Ended}
+use Rattle.requests.specs.declared.Target.{Target}
+use Rattle.requests.specs.declared.Target.the-variants.{Stop, GoTo}
+use Rattle.requests.specs.declared.Stage.{Stage}
+use Rattle.requests.specs.declared.Stage.the-variants.{Straight, Flushing}
+use Rattle.requests.specs.declared.Reply.{Reply}
+use Rattle.requests.specs.declared.Reply.the-variants.{Good, Bad}
+use Rattle.calls.specs.Calls.{Call, tick, read, write, startStop, next, answer, requestSense, plain, progressed, Outcome, StepFunction}
+use Rattle.calls.specs.Examples.{Example, IsShown, off, on, fresh, keeps, quiet, holding, idled, epcCall, cdbCall, done, sends}
+use Rattle.calls.specs.Table.{verdictIn}
+
+-- ---- what the rows show
+
+-- "No." and "Sense" of a refusal. What is not refused has no number: 0 stands here.
+pub record NumberAndSense : Type 0 where
+  pub number : ℕ
+  pub sense : SenseDue
+
+abbrev pub toldOf : Verdict → NumberAndSense
+toldOf Clear = record { number = 0; sense = NoSense }
+toldOf (Given r) = record { number = numberOf r; sense = senseOf r }
+
+abbrev pub isRefused : ℕ → SenseDue → Outcome → Type 0
+isRefused n due o = toldOf (verdictIn (o .said)) ≡ record { number = n; sense = due }
+
+abbrev pub senseDue : ℕ → ℕ → ℕ → SenseDue
+senseDue key asc ascq = WithSense (record { key = key; asc = asc; ascq = ascq })
+
+-- An operation without IMMED and without a flush ended with GOOD, and left this record.
+abbrev pub endedGood : Unit → Outcome → Type 0
+endedGood u o =
+    o ≡ record { said = progressed (Ended (record { status = GoodStatus; sense = NoSense; flushes = 0 })); unit = u; buffer = [] }
+
+-- One failed, with its sense and this many flushes.
+abbrev pub endedFailed : ℕ → Outcome → Type 0
+endedFailed flushes o =
+    o .said ≡ progressed (Ended (record { status = CheckCondition; sense = senseDue 0x0B 0x2C 0x00; flushes = flushes }))
+
+-- ---- what they start from, and the calls
+
+-- A unit that was stopped, and one that was not, in this condition; something is unsaved.
+abbrev pub stoppedIn : Power → Unit
+stoppedIn p = withMarks true true (withPower p fresh)
+
+abbrev pub runningIn : Power → Unit
+runningIn p = withMarks false true (withPower p fresh)
+
+-- By the saved and the current setting of Standby_y.
+abbrev pub standbyKept : Setting → Setting → Unit
+standbyKept saved current = holding (quiet ∷ quiet ∷ quiet ∷ keeps off saved current ∷ quiet ∷ [])
+
+-- A timer that is off.
+abbrev pub timerOff : ℕ → Setting
+timerOff tenths = record { enabled = false; timer = record { 0 = tenths } }
+
+-- By the timers and the recovery time of Idle_A, which is off, and the idle count.
+abbrev pub sized : ℕ → ℕ → ℕ → Unit
+sized timer recovery idle =
+    let maker : Made = record { supported = true; saveable = true; changeable = true; recovery = record { 0 = recovery }; default = timerOff timer } in
+    idled idle (holding (madeRecord 0 maker ∷ quiet ∷ quiet ∷ quiet ∷ quiet ∷ []))
+
+-- An operation of host 0 waits, and then its command is out.
+abbrev pub waitingFor : Target → Stage → Unit → Unit
+waitingFor t stage u = withSlot 0 (Waiting (record { target = t; immed = false; stage = stage })) u
+
+abbrev pub outUnit : Unit
+outUnit = withOut (OutFor 0) (waitingFor Stop (Flushing 0) fresh)
+
+-- By Idle_A's record.
+abbrev pub withIdleA : Record → Unit
+withIdleA r = holding (r ∷ quiet ∷ quiet ∷ quiet ∷ quiet ∷ [])
+
+-- START STOP UNIT from host 0, by bytes 2, 3 and 4 of its CDB.
+abbrev pub ssu : ℕ → ℕ → ℕ → Call
+ssu two three four = cdbCall 0x1B 0 two three four 0
+
+-- The same by byte 4, run whole where it sends no flush: its one command is asked for and answered.
+abbrev pub runWhole : ℕ → Reply → List Call
+runWhole four reply = ssu 0 0 four ∷ next 0 ∷ answer 0 reply ∷ []
+
+-- ---- the table
+
+pub data Fact : Type 0 where
+  number-1 number-2 number-3 number-4 number-5 number-6 number-7 number-8 number-9 number-10 : Fact
+  recovery-3 timer-3 slot-3 largest-numbers out-epc out-read out-start out-next out-sense none-out written-9 byte-2 modifier-1 : Fact
+  by-current not-by-saved unsupported-z : Fact
+  verify-sent verify-bad start-starts start-stays goes-starts goes-stays epc-keeps epc-stays : Fact
+  restores-saved timer-16 timer-not-on flag-by-saved flag-off idle-counts idle-stays : Fact
+  fails-told fails-held flushes-255 flushes-stay : Fact
+
+abbrev pub factOf : Fact → Example
+-- ---- "Numbers given back": each number and its sense, on a call to which its row alone applies.
+-- 1: "CDB not 6 bytes".
+factOf number-1 = record { start = fresh; calls = startStop 0 (0x1B ∷ 0 ∷ 0 ∷ 0 ∷ 0 ∷ []) ∷ []; shows = isRefused 1 NoSense }
+-- 2: "host above 3".
+factOf number-2 = record { start = fresh; calls = read 4 ∷ []; shows = isRefused 2 NoSense }
+-- 3: "record not well formed": "no timer, recovery time or idle count is above 65,535", each on both sides.
+factOf number-3 = record { start = sized 65535 65535 65536; calls = tick ∷ []; shows = isRefused 3 NoSense }
+factOf recovery-3 = record { start = sized 65535 65536 65535; calls = tick ∷ []; shows = isRefused 3 NoSense }
+factOf timer-3 = record { start = sized 65536 65535 65535; calls = tick ∷ []; shows = isRefused 3 NoSense }
+factOf largest-numbers = record { start = sized 65535 65535 65535; calls = tick ∷ []; shows = λ o. o .said ≡ plain Done }
+-- "a waiting request is one START STOP accepts": a go to a condition that is not supported is none.
+factOf slot-3 = record { start = waitingFor (GoTo IdleA) Straight blank; calls = tick ∷ []; shows = isRefused 3 NoSense }
+-- 4: "a command is out (host calls other than the answer; EPC; ..)".
+factOf number-4 = record { start = outUnit; calls = write 1 ∷ []; shows = isRefused 4 NoSense }
+factOf out-read = record { start = outUnit; calls = read 1 ∷ []; shows = isRefused 4 NoSense }
+factOf out-start = record { start = outUnit; calls = startStop 1 (0x1B ∷ 0 ∷ 0 ∷ 0 ∷ 0 ∷ 0 ∷ []) ∷ []; shows = isRefused 4 NoSense }
+factOf out-next = record { start = outUnit; calls = next 0 ∷ []; shows = isRefused 4 NoSense }
+factOf out-sense = record { start = outUnit; calls = requestSense 1 (replicate 18 0) ∷ []; shows = isRefused 4 NoSense }
+factOf out-epc = record { start = outUnit; calls = epcCall 0x81 0x1 ∷ []; shows = isRefused 4 NoSense }
+-- 5: "next asked by a host with none waiting; answer for a host that has none out".
+factOf number-5 = record { start = fresh; calls = ssu 0 0 0 ∷ next 1 ∷ []; shows = isRefused 5 NoSense }
+factOf none-out = record { start = fresh; calls = ssu 0 0 0 ∷ answer 0 Good ∷ []; shows = isRefused 5 NoSense }
+-- 6: "START STOP from a host whose own operation waits".
+factOf number-6 = record { start = fresh; calls = ssu 0 0 0 ∷ ssu 0 0 1 ∷ []; shows = isRefused 6 (senseDue 0x02 0x04 0x07) }
+-- 7: "opcode not 1Bh".
+factOf number-7 = record { start = fresh; calls = cdbCall 0x1A 0 0 0 0 0 ∷ []; shows = isRefused 7 (senseDue 0x05 0x20 0x00) }
+-- 8: "CDB not in the list above": power condition 4h; a bit of byte 2; "1h, modifier 0".
+factOf number-8 = record { start = fresh; calls = ssu 0 0 0x40 ∷ []; shows = isRefused 8 (senseDue 0x05 0x24 0x00) }
+factOf byte-2 = record { start = fresh; calls = ssu 1 0 0 ∷ []; shows = isRefused 8 (senseDue 0x05 0x24 0x00) }
+factOf modifier-1 = record { start = fresh; calls = ssu 0 1 0x10 ∷ []; shows = isRefused 8 (senseDue 0x05 0x24 0x00) }
+-- 9: "read or write with the stopped mark".
+factOf number-9 = record { start = stoppedIn Active; calls = read 0 ∷ []; shows = isRefused 9 (senseDue 0x02 0x04 0x02) }
+factOf written-9 = record { start = stoppedIn Active; calls = write 0 ∷ []; shows = isRefused 9 (senseDue 0x02 0x04 0x02) }
+-- 10: "EPC abort": Count FEh is not listed.
+factOf number-10 = record { start = fresh; calls = epcCall 0xFE 0x40 ∷ []; shows = isRefused 10 NoSense }
+-- ---- "stop enters Standby_y if its current flag is set, else Standby_z, supported or not": not by the saved flag.
+factOf by-current = record {
+  start = standbyKept off (on 9);
+  calls = runWhole 0x04 Good;
+  shows = endedGood (withMarks true false (withPower (Low StandbyY Command) (standbyKept off (on 9))));
+}
+factOf not-by-saved = record {
+  start = standbyKept (on 9) off;
+  calls = runWhole 0x04 Good;
+  shows = endedGood (withMarks true false (withPower (Low StandbyZ Command) (standbyKept (on 9) off)));
+}
+factOf unsupported-z = record {
+  start = blank;
+  calls = runWhole 0x04 Good;
+  shows = endedGood (withMarks true false (withPower (Low StandbyZ Command) blank));
+}
+-- ---- "READ VERIFY 40h, Count 1, LBA 0."
+factOf verify-sent = record { start = fresh; calls = ssu 0 0 1 ∷ next 0 ∷ []; shows = sends 0x40 0 1 0 }
+-- "Start counts as good whatever the verify answered (004), and leaves Active, stopped zero."
+factOf verify-bad = record { start = stoppedIn (Low StandbyZ Command); calls = runWhole 0x01 Bad; shows = endedGood (runningIn Active) }
+factOf start-starts = record { start = stoppedIn (Low StandbyZ Command); calls = runWhole 0x01 Good; shows = endedGood (runningIn Active) }
+factOf start-stays = record { start = runningIn (Low IdleA Command); calls = runWhole 0x01 Good; shows = endedGood (runningIn Active) }
+-- ---- "the stopped mark becomes one for stop, zero for any other": a go to Idle_A with NO_FLUSH, of a stopped unit and of one that runs.
+factOf goes-starts =
+    record { start = stoppedIn (Low StandbyZ Command); calls = runWhole 0x24 Good; shows = endedGood (runningIn (Low IdleA Command)) }
+factOf goes-stays = record { start = runningIn Active; calls = runWhole 0x24 Good; shows = endedGood (runningIn (Low IdleA Command)) }
+-- ---- "1h go to": "unit enters the condition, cause command; marks stay".
+factOf epc-keeps =
+    record { start = stoppedIn Active; calls = epcCall 0x81 0x1 ∷ []; shows = λ o. o ≡ done (stoppedIn (Low IdleA Command)) }
+factOf epc-stays =
+    record { start = fresh; calls = epcCall 0x81 0x1 ∷ []; shows = λ o. o ≡ done (withPower (Low IdleA Command) fresh) }
+-- "0h restore": "current becomes .. saved; with bit 4, saved takes the same setting".
+factOf restores-saved = record {
+  start = withIdleA (keeps (on 10) (on 20) (on 30));
+  calls = epcCall 0x81 0x10 ∷ [];
+  shows = λ o. o ≡ done (withIdleA (keeps (on 10) (on 20) (on 20)));
+}
+-- "2h timer": "23:8 timer, 5 enable"; "flag is enable and timer nonzero".
+factOf timer-16 = record {
+  start = withIdleA quiet;
+  calls = epcCall 0x81 0xFFFF22 ∷ [];
+  shows = λ o. o ≡ done (withIdleA (keeps off off (on 65535)));
+}
+factOf timer-not-on = record {
+  start = withIdleA quiet;
+  calls = epcCall 0x81 0x012C02 ∷ [];
+  shows = λ o. o ≡ done (withIdleA (keeps off off (timerOff 300)));
+}
+-- "3h state": "current flag is enable and current timer nonzero; bit 4: saved flag likewise from the saved timer".
+factOf flag-by-saved = record {
+  start = withIdleA (keeps off (timerOff 20) off);
+  calls = epcCall 0x81 0x33 ∷ [];
+  shows = λ o. o ≡ done (withIdleA (keeps off (on 20) off));
+}
+factOf flag-off = record {
+  start = withIdleA (keeps off (on 20) (on 30));
+  calls = epcCall 0x81 0x13 ∷ [];
+  shows = λ o. o ≡ done (withIdleA (keeps off (timerOff 20) (timerOff 30)));
+}
+-- ---- "A tick .. adds 1 to the idle count, which stays at 65,535."
+factOf idle-counts = record { start = idled 65534 fresh; calls = tick ∷ []; shows = λ o. o ≡ done (idled 65535 fresh) }
+factOf idle-stays = record { start = idled 65535 fresh; calls = tick ∷ []; shows = λ o. o ≡ done (idled 65535 fresh) }
+-- ---- "Failure is ABORTED COMMAND, COMMAND SEQUENCE ERROR (0B/2C/00)": with the answer, and held with IMMED 1.
+factOf fails-told = record { start = fresh; calls = ssu 0 0 0 ∷ next 0 ∷ answer 0 Bad ∷ []; shows = endedFailed 1 }
+factOf fails-held = record {
+  start = fresh;
+  calls = cdbCall 0x1B 1 0 0 0 0 ∷ next 0 ∷ answer 0 Bad ∷ requestSense 0 (replicate 18 0xFF) ∷ [];
+  shows =
+      λ o. o .buffer
+      ≡ 0x71 ∷ 0x00 ∷ 0x0B ∷ 0x00 ∷ 0x00 ∷ 0x00 ∷ 0x00 ∷ 0x0A ∷ 0x00
+      ∷ 0x00 ∷ 0x00 ∷ 0x00 ∷ 0x2C ∷ 0x00 ∷ 0x00 ∷ 0x00 ∷ 0x00 ∷ 0x00 ∷ [];
+}
+-- "the number of flushes answered, good and bad, for that operation, which stays at 255 once reached": a flush, a write, and a bad flush.
+factOf flushes-255 = record {
+  start = waitingFor Stop (Flushing 253) (withMarks false true fresh);
+  calls = next 0 ∷ answer 0 Good ∷ write 1 ∷ next 0 ∷ answer 0 Bad ∷ [];
+  shows = endedFailed 255;
+}
+factOf flushes-stay = record {
+  start = waitingFor Stop (Flushing 254) (withMarks false true fresh);
+  calls = next 0 ∷ answer 0 Good ∷ write 1 ∷ next 0 ∷ answer 0 Bad ∷ [];
+  shows = endedFailed 255;
+}
+
+-- ---- the statement
+
+-- Every fact holds of the step function.
+abbrev pub Facts : StepFunction → Type 0
+Facts by = (x : Fact) → IsShown by (factOf x)
