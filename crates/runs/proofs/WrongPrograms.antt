@@ -1,10 +1,18 @@
 -- Wrong programs, as step functions: those of document 01's "Holding the wording to account" and "Slips seen in other boards", in its words, and others.
 -- Each does as the layer does but for its own slip.
 use mathlib.Core.Bool.{Bool, true, false, not, _&&_, _||_, cond}
+use Prim.Native.Nat.{ℕ, _+_, _-_}
 use lib.Dec.{eqb}
 use lib.ListN.{replicate}
+use Rattle.rows.specs.Rows.{mapAt}
+use Rattle.conditions.specs.Conditions.{depth}
+use Rattle.conditions.specs.declared.Power.{Power}
 use Rattle.conditions.specs.declared.Power.the-variants.{Active}
-use Rattle.unit.specs.Units.{noneHeld, slotOf, unitOf, withMarks, withOut, withPower}
+use Rattle.drive.specs.Drives.{withSettings, timersAsk, fallen}
+use Rattle.drive.specs.declared.Record.{Record}
+use Rattle.drive.specs.declared.Drive.{Drive}
+use Rattle.registers.specs.declared.Registers.{Registers}
+use Rattle.unit.specs.Units.{emptySlot, noneHeld, slotOf, isOut, unitOf, withMarks, withOut, withPower}
 use Rattle.refusals.specs.declared.Refusal.{Refusal}
 use Rattle.refusals.specs.declared.Refusal.the-variants.{BadRecord, OwnWaiting}
 use Rattle.refusals.specs.declared.SenseDue.{SenseDue}
@@ -16,16 +24,18 @@ use Rattle.unit.specs.declared.Out.the-variants.{NoneOut, OutFor}
 use Rattle.refusals.specs.declared.Answer.the-variants.{Refused}
 use Rattle.unit.specs.declared.Unit.{Unit}
 use Rattle.operations.specs.Operations.{registersOf, flushesOf, dueFrom, isFlush}
-use Rattle.operations.specs.declared.Due.the-variants.{StandbyImmediate}
+use Rattle.operations.specs.declared.Due.the-variants.{Flush, StandbyImmediate}
 use Rattle.operations.specs.declared.Acceptance.the-variants.{GoodDue, Pending, NotAccepted}
 use Rattle.operations.specs.declared.Next.the-variants.{Send, NotSent}
 use Rattle.requests.specs.declared.Reply.the-variants.{Good}
+use Rattle.operations.specs.declared.Status.the-variants.{GoodStatus}
 use Rattle.operations.specs.declared.Report.{Report}
 use Rattle.operations.specs.declared.Progress.{Progress}
 use Rattle.operations.specs.declared.Progress.the-variants.{More, Ended, NotTaken}
-use Rattle.calls.specs.Calls.{Call, next, answer, Said, plain, accepted, sent, progressed, Outcome, outcome, StepFunction}
+use Rattle.calls.specs.Calls.{Call, tick, next, answer, Said, plain, accepted, sent, progressed, Outcome, outcome, StepFunction}
 use Rattle.calls.specs.Described.{sameKind, isWrite, reachOf, ofHost, isSenseOf, lent}
-use Rattle.calls.specs.Table.{verdictIn, isClear}
+use Rattle.calls.specs.Examples.{off}
+use Rattle.calls.specs.Table.{usesMedium, verdictIn, isClear}
 use Rattle.runs.specs.Serial.{nothingWaits}
 
 -- ---- an outcome with one thing changed
@@ -64,6 +74,35 @@ flushesOnce u c = cond (afterFlush u c) (leaving (marked (u .unsaved) (unlooked 
 abbrev pub clearsMark : StepFunction
 clearsMark u c = cond (afterFlush u c && isClear (verdictIn (outcome u c .said))) (unlooked u c) (outcome u c)
 
+-- ---- ticks
+
+-- A tick that counts: it is not refused, and no command is out.
+abbrev pub counts : Unit → Call → Bool
+counts u c = sameKind c tick && isClear (verdictIn (outcome u c .said)) && not (isOut (u .out))
+
+-- What such a tick enters is asked of another function, by the drive before it and the count that it leaves.
+abbrev pub entering : (Drive → ℕ → Power) → StepFunction
+entering asked u c =
+    let o = outcome u c in
+    cond (counts u c) (leaving (withPower (asked (u .drive) (o .unit .drive .idle .0)) (o .unit)) o) o
+
+-- Each timer runs out a tick early, or a tick late.
+abbrev pub early : StepFunction
+early = entering (λ d n. fallen (timersAsk (d .records) (n + 1)) (d .power))
+
+abbrev pub late : StepFunction
+late = entering (λ d n. fallen (timersAsk (d .records) (n - 1)) (d .power))
+
+-- "Letting a longer idle timer lift the drive out of standby": the condition whose timer runs out at this very tick is entered, wherever the drive is.
+abbrev pub onlyAt : ℕ → ℕ → Record → Record
+onlyAt count place r = cond (eqb (r .current .timer .0) count) r (withSettings (r .saved) off r)
+
+abbrev pub orStays : Power → Power → Power
+orStays asked present = cond (eqb (depth asked) 0) present asked
+
+abbrev pub lifts : StepFunction
+lifts = entering (λ d n. orStays (timersAsk (mapAt (onlyAt n) 0 (d .records)) n) (d .power))
+
 -- ---- others
 
 -- One that takes a write while a command is out, as if none were: the flush that is out may not cover it.
@@ -72,16 +111,31 @@ writesThrough u c =
     let o = outcome (withOut NoneOut u) c in
     cond (isWrite c) (leaving (withOut (u .out) (o .unit)) o) (outcome u c)
 
--- One that parks the unit on a start: STANDBY IMMEDIATE is handed out for the verify.
-abbrev pub parking : Said → Said
-parking (plain a) = plain a
-parking (accepted a) = accepted a
-parking (sent (Send q)) = sent (Send (cond (eqb (q .command) 0x40) (registersOf StandbyImmediate) q))
-parking (sent (NotSent r)) = sent (NotSent r)
-parking (progressed p) = progressed p
+-- Another command is handed out for one with this code.
+abbrev pub handing : ℕ → Registers → Said → Said
+handing code other (plain a) = plain a
+handing code other (accepted a) = accepted a
+handing code other (sent (Send q)) = sent (Send (cond (eqb (q .command) code) other q))
+handing code other (sent (NotSent r)) = sent (NotSent r)
+handing code other (progressed p) = progressed p
 
+-- One that parks the unit on a start: STANDBY IMMEDIATE is handed out for the verify.
 abbrev pub startParks : StepFunction
-startParks u c = saying (parking (outcome u c .said)) (outcome u c)
+startParks u c = saying (handing 0x40 (registersOf StandbyImmediate) (outcome u c .said)) (outcome u c)
+
+-- One that flushes where a stop is due, asked to or not.
+abbrev pub flushesAnyway : StepFunction
+flushesAnyway u c = saying (handing 0xE0 (registersOf Flush) (outcome u c .said)) (outcome u c)
+
+-- One whose ticks start the unit.
+abbrev pub tickStarts : StepFunction
+tickStarts u c = cond (sameKind c tick) (leaving (withMarks false (u .unsaved) (outcome u c .unit)) (outcome u c)) (outcome u c)
+
+-- One that takes reads and writes of a stopped unit; the mark stays.
+abbrev pub worksStopped : StepFunction
+worksStopped u c =
+    let o = outcome (withMarks false (u .unsaved) u) c in
+    cond (usesMedium c) (leaving (withMarks (u .stopped) (o .unit .unsaved) (o .unit)) o) (outcome u c)
 
 -- "one that changes nothing": it says what the layer says.
 abbrev pub changesNothing : StepFunction
@@ -183,6 +237,41 @@ reporting say u c = saying (atEnd say (outcome u c .said)) (outcome u c)
 abbrev pub inventsCount : StepFunction
 inventsCount = reporting (λ report. Ended (record { status = report .status; sense = report .sense; flushes = 1 }))
 
+-- More is to come.
+abbrev pub isMore : Said → Bool
+isMore (plain a) = false
+isMore (accepted a) = false
+isMore (sent n) = false
+isMore (progressed More) = true
+isMore (progressed (Ended report)) = false
+isMore (progressed (NotTaken r)) = false
+
+-- One that takes an operation for done at its good flush.
+abbrev pub endsAtFlush : StepFunction
+endsAtFlush u c =
+    let v = outcome u c .unit in
+    let over = unitOf (v .drive) (v .stopped) (v .unsaved) (replicate 4 emptySlot) (v .held) (v .out) in
+    let said = progressed (Ended (record { status = GoodStatus; sense = NoSense; flushes = 1 })) in
+    cond (isMore (outcome u c .said)) (saying said (leaving over (outcome u c))) (outcome u c)
+
+-- One that does not count a good flush.
+abbrev pub uncounts : StepFunction
+uncounts u c =
+    let v = outcome u c .unit in
+    cond (isMore (outcome u c .said)) (leaving (unitOf (v .drive) (v .stopped) (v .unsaved) (u .slots) (v .held) (v .out)) (outcome u c)) (outcome u c)
+
+-- One that owes every status until the end.
+abbrev pub pending : Said → Said
+pending (plain a) = plain a
+pending (accepted GoodDue) = accepted Pending
+pending (accepted Pending) = accepted Pending
+pending (accepted (NotAccepted r)) = accepted (NotAccepted r)
+pending (sent n) = sent n
+pending (progressed p) = progressed p
+
+abbrev pub owesStatus : StepFunction
+owesStatus u c = saying (pending (outcome u c .said)) (outcome u c)
+
 -- One that swallows end reports: it says that more is to come where an operation is over.
 abbrev pub swallows : StepFunction
 swallows = reporting (λ report. More)
@@ -198,6 +287,14 @@ noneHeldIn u = unitOf (u .drive) (u .stopped) (u .unsaved) (u .slots) (replicate
 abbrev pub dropsAllHeld : StepFunction
 dropsAllHeld u c =
     cond (isSenseOf (λ host. true) c && isClear (verdictIn (outcome u c .said))) (leaving (noneHeldIn (outcome u c .unit)) (outcome u c)) (outcome u c)
+
+-- One that goes on holding a sense that it has told.
+abbrev pub tellsAgain : StepFunction
+tellsAgain u c =
+    let o = outcome u c in
+    cond (isSenseOf (λ host. true) c)
+    (leaving (unitOf (o .unit .drive) (o .unit .stopped) (o .unit .unsaved) (o .unit .slots) (u .held) (o .unit .out)) o)
+    o
 
 -- One that "always reports Active": the bytes are those of an Active unit. The condition is in no other buffer, so no other call is touched.
 abbrev pub alwaysActive : StepFunction

@@ -6,41 +6,47 @@ use mathlib.Core.List.{List, [], _∷_, _++_}
 use mathlib.Core.Logic.{inl, inr}
 use Prim.Native.Nat.{ℕ, zero, suc}
 use native.Mathlib.Omega.{arith}
-use lib.ListN.{getD, replicate, take, drop}
+use lib.ListN.{getD, length, replicate, take, drop}
 use borrow.Author.Tests.{not-true}
 use Rattle.rows.proofs.Places.{and-left, and-right}
 use Rattle.conditions.specs.Conditions.{depth}
 use Rattle.conditions.specs.declared.Condition.the-variants.{StandbyZ}
 use Rattle.conditions.specs.declared.Cause.the-variants.{Command}
 use Rattle.drive.specs.declared.Made.{Made}
-use Rattle.conditions.specs.declared.Power.the-variants.{Low}
+use Rattle.conditions.specs.declared.Power.the-variants.{Active, Low}
 use Rattle.registers.specs.declared.Registers.{Registers}
 use Rattle.unit.specs.Units.{noneHeld, isWaiting}
 use Rattle.engine.specs.Engine.{manufactureOutcome}
 use Rattle.refusals.specs.declared.Refusal.{Refusal}
-use Rattle.refusals.specs.declared.Refusal.the-variants.{BadRecord, OwnWaiting}
+use Rattle.refusals.specs.declared.Refusal.the-variants.{BadRecord, OwnWaiting, IsStopped}
 use Rattle.refusals.specs.declared.Verdict.the-variants.{Given}
+use Rattle.unit.specs.declared.Held.{Held}
+use Rattle.unit.specs.declared.Held.the-variants.{Nothing, Holds}
 use Rattle.unit.specs.declared.Unit.{Unit}
 use Rattle.requests.specs.declared.Target.{Target}
 use Rattle.requests.specs.declared.Target.the-variants.{Stop, Start, GoTo}
 use Rattle.operations.specs.Operations.{registersOf, lastOf}
-use Rattle.operations.specs.declared.Due.the-variants.{StandbyImmediate}
+use Rattle.operations.specs.declared.Due.the-variants.{Flush, StandbyImmediate}
 use Rattle.cdb.specs.declared.Wanted.{Wanted}
 use Rattle.cdb.specs.declared.Wanted.the-variants.{Wants, Unlisted}
+use Rattle.cdb.specs.Cdb.{wanted}
+use Rattle.operations.specs.declared.Acceptance.the-variants.{GoodDue, Pending, NotAccepted}
 use Rattle.operations.specs.declared.Next.the-variants.{Send, NotSent}
 use Rattle.requests.specs.declared.Reply.the-variants.{Good, Bad}
 use Rattle.calls.specs.Calls.{Call, tick, read, write, startStop, next, answer, requestSense, Said, plain, accepted, sent, progressed, Outcome, StepFunction, outcome, runBy, historyBy, run}
-use Rattle.calls.specs.Examples.{*g20, *l, *m, off, makes, fresh, idled, quiet, epcCall, Examples}
-use Rattle.calls.specs.Table.{verdictIn, Numbers}
+use Rattle.calls.specs.Examples.{*d, *e, *g19, *g20, *g49, *g50, *h, *l, *m, off, makes, fresh, idled, quiet, epcCall, Examples}
+use Rattle.calls.specs.Facts.{NumberAndSense, stoppedIn, number-9, Facts}
+use Rattle.calls.specs.Table.{verdictIn, isClear, Numbers}
+use Rattle.calls.proofs.Numbers.{numbers-given}
 use Rattle.runs.specs.Deeds.{Deed, wasRefused, another, deedOf, deeds}
-use Rattle.runs.specs.Serial.{serialAfter, serial, nothingWaits, resetsAtRest, Compared, compared, Demand3}
+use Rattle.runs.specs.Serial.{serialAfter, serial, nothingWaits, resetsAtRest, Compared, compared, Demand3, SerialRun}
 use Rattle.runs.specs.Past.{pastBy}
-use Rattle.runs.specs.Safe.{latestPoweredOn, latestFlushed, WroteAgo, AllSafe, lastGoesOut, NoByteLeftBehind, MarkTells}
-use Rattle.runs.specs.Reports.{OneFate, EndReported, FailureTold}
+use Rattle.runs.specs.Safe.{latestPoweredOn, latestFlushed, WroteAgo, AllSafe, lastGoesOut, asksFlush, NoByteLeftBehind, MarkTells}
+use Rattle.runs.specs.Reports.{OneFate, EndReported, HeldTold, FailureTold}
 use Rattle.runs.specs.Idle.{IdleRestarts}
 use Rattle.runs.specs.Commands.{AskedFor, CommandsSent}
 use Rattle.runs.specs.FlushCount.{FlushCount}
-use Rattle.runs.proofs.WrongPrograms.{flushesOnce, clearsMark, writesThrough, changesNothing, keepsPower, badFlushSaves, failureStarts, refusing, refusesAll, oneForAll, inventsCount, startParks, swallows, mutes, forgets, reportsTwice, dropsAllHeld, isDue, alwaysActive}
+use Rattle.runs.proofs.WrongPrograms.{flushesOnce, clearsMark, early, late, lifts, writesThrough, flushesAnyway, tickStarts, worksStopped, changesNothing, keepsPower, badFlushSaves, failureStarts, refusing, refusesAll, oneForAll, inventsCount, startParks, endsAtFlush, uncounts, owesStatus, swallows, mutes, forgets, reportsTwice, dropsAllHeld, tellsAgain, isDue, alwaysActive}
 use Rattle.runs.proofs.Deeds.{Turn, starts, asks, answers, apart, turn}
 use Rattle.runs.proofs.Computed.{computed}
 
@@ -166,25 +172,43 @@ bad-flush-saves-leaves-bytes =
 abbrev startCdb : List ℕ
 startCdb = 0x1B ∷ 0 ∷ 0 ∷ 0 ∷ 1 ∷ 0 ∷ []
 
--- E0h is not what a start asks for.
+-- The command is no flush that the CDB asks for, and not the last one of any target that it asks for.
+not-asked : (cdb : List ℕ) (q : Registers) → asksFlush cdb ≡ false → ((t : Target) → wanted cdb ≡ Wants t → q .command ≡ registersOf (lastOf t) .command → ⊥)
+    → AskedFor cdb q → ⊥
+not-asked cdb q none other (inl flush) = true≢false (sym (flush .0) ∙ none)
+not-asked cdb q none other (inr (t, wants, last)) = other t wants (ap (λ (r : Registers). r .command) last)
+
+-- What a CDB asks for, as a number.
+abbrev askedAs : Wanted → ℕ
+askedAs Unlisted = 0
+askedAs (Wants Stop) = 1
+askedAs (Wants Start) = 2
+askedAs (Wants (GoTo c)) = 3
+
+-- E0h is not what a start asks for,
 pub start-parks-fails-commands : CommandsSent startParks → ⊥
 unfolding computed
-start-parks-fails-commands holds = on (holds fresh (startStop 0 startCdb ∷ []) 0 _ refl refl refl)
+start-parks-fails-commands holds =
+    not-asked startCdb (registersOf StandbyImmediate) refl other (holds fresh (startStop 0 startCdb ∷ []) 0 _ refl refl refl)
   where
-    on : AskedFor startCdb (registersOf StandbyImmediate) → ⊥
-    on (inl flush) = false≢true (flush .0)
-    on (inr (t, wants, last)) = other t (ap isStart wants) (ap (λ (q : Registers). q .command) last)
-      where
-        isStart : Wanted → Bool
-        isStart Unlisted = false
-        isStart (Wants Stop) = false
-        isStart (Wants Start) = true
-        isStart (Wants (GoTo c)) = false
+    other : (t : Target) → wanted startCdb ≡ Wants t → 0xE0 ≡ registersOf (lastOf t) .command → ⊥
+    other Stop w e = let shown : _≡_ {A = ℕ} 2 1 = ap askedAs w in omega arith
+    other Start w e = omega (arith, e)
+    other (GoTo c) w e = let shown : _≡_ {A = ℕ} 2 3 = ap askedAs w in omega arith
 
-        other : (t : Target) → true ≡ isStart (Wants t) → 0xE0 ≡ registersOf (lastOf t) .command → ⊥
-        other Stop is e = true≢false is
-        other Start is e = omega (arith, e)
-        other (GoTo c) is e = true≢false is
+-- nor E7h what a stop with NO_FLUSH does.
+abbrev stopStraight : List ℕ
+stopStraight = 0x1B ∷ 0 ∷ 0 ∷ 0 ∷ 4 ∷ 0 ∷ []
+
+pub flushes-anyway-fails-commands : CommandsSent flushesAnyway → ⊥
+unfolding computed
+flushes-anyway-fails-commands holds =
+    not-asked stopStraight (registersOf Flush) refl other (holds fresh (startStop 0 stopStraight ∷ []) 0 _ refl refl refl)
+  where
+    other : (t : Target) → wanted stopStraight ≡ Wants t → 0xE7 ≡ registersOf (lastOf t) .command → ⊥
+    other Stop w e = omega (arith, e)
+    other Start w e = omega (arith, e)
+    other (GoTo c) w e = omega (arith, e)
 
 -- ---- failures
 
@@ -203,12 +227,20 @@ unfolding computed
 bad-flush-saves-fails-demand-3 holds =
     false≢true (ap (λ (k : Compared). k .unsaved) (holds fresh (write 1 ∷ stops 0 ∷ next 0 ∷ answer 0 Bad ∷ []) refl refl refl refl))
 
+-- A stop that goes well.
+abbrev parks : List Call
+parks = stops 0 ∷ next 0 ∷ answer 0 Good ∷ next 0 ∷ answer 0 Good ∷ []
+
 -- A stopped unit stays stopped through a go to that fails.
 pub failure-starts-fails-demand-3 : Demand3 failureStarts → ⊥
 unfolding computed
 failure-starts-fails-demand-3 holds =
-    let parks = stops 0 ∷ next 0 ∷ answer 0 Good ∷ next 0 ∷ answer 0 Good ∷ [] in
     false≢true (ap (λ (k : Compared). k .stopped) (holds fresh (parks ++ goesToIdleB ∷ next 0 ∷ answer 0 Bad ∷ []) refl refl refl refl))
+
+-- A stopped unit stays stopped through a tick.
+pub tick-starts-fails-demand-3 : Demand3 tickStarts → ⊥
+unfolding computed
+tick-starts-fails-demand-3 holds = false≢true (ap (λ (k : Compared). k .stopped) (holds (stoppedIn Active) (tick ∷ []) refl refl refl refl))
 
 -- ---- "one that changes nothing fails the effects"
 
@@ -223,6 +255,25 @@ unfolding computed manufactureOutcome
 changes-nothing-fails-mark holds =
     let unsafe = holds ordered (write 0 ∷ []) .1 .0 refl 0 refl (λ j before. absurd (omega arith)) in
     omega (arith, unsafe .1)
+
+-- The mark stays clear over a write that is not.
+pub changes-nothing-hides-write : MarkTells changesNothing → ⊥
+unfolding computed manufactureOutcome
+changes-nothing-hides-write holds =
+    false≢true
+    (holds ordered (write 0 ∷ []) .0 .1
+    (record { ago = 0; was-write = refl; since-power-on = λ j before. absurd (omega arith); not-safe = λ s. omega (arith, s .1) }))
+
+-- What is left shows in rows d and e: a current setting, and the idle count after the abort.
+pub changes-nothing-fails-d : Examples changesNothing → ⊥
+unfolding computed
+changes-nothing-fails-d holds =
+    let shown : _≡_ {A = ℕ} 12 10 = ap (λ (o : Outcome). getD (o .unit .drive .records) 0 quiet .current .timer .0) (holds *d) in
+    omega arith
+
+pub changes-nothing-fails-e : Examples changesNothing → ⊥
+unfolding computed
+changes-nothing-fails-e holds = let shown : _≡_ {A = ℕ} 7 0 = ap (λ (o : Outcome). o .unit .drive .idle .0) (holds *e) in omega arith
 
 -- A read leaves the idle count at 7.
 pub changes-nothing-fails-idle : IdleRestarts changesNothing → ⊥
@@ -240,6 +291,18 @@ refuses-all-fails-g holds = let shown : _≡_ {A = ℕ} 0 1 = ap depth (holds *g
 pub refuses-all-fails-numbers : Numbers refusesAll → ⊥
 unfolding computed
 refuses-all-fails-numbers holds = false≢true (holds fresh tick BadRecord .0 refl .itself)
+
+-- Number 9 is not given, and the facts miss it.
+pub works-stopped-fails-facts : Facts worksStopped → ⊥
+unfolding computed
+works-stopped-fails-facts holds = let shown : _≡_ {A = ℕ} 0 9 = ap (λ (t : NumberAndSense). t .number) (holds number-9) in omega arith
+
+-- Nor do the numbers: its row is the lowest that applies.
+pub works-stopped-fails-numbers : Numbers worksStopped → ⊥
+unfolding computed
+works-stopped-fails-numbers holds =
+    let u = stoppedIn Active in
+    true≢false (ap isClear (holds u (read 0) IsStopped .1 (numbers-given u (read 0) IsStopped .0 refl)))
 
 -- Demand 3 drops every refused call, so on no run does it see this program: the serial list is empty, and the record stays.
 refusal-said : (r : Refusal) (said : Said) → verdictIn (refusing r said) ≡ Given r
@@ -268,6 +331,28 @@ nothing-moves u (c ∷ cs) = nothing-moves u cs
 pub refuses-all-meets-demand-3 : Demand3 refusesAll
 refuses-all-meets-demand-3 u cs w n r e = rw (nothing-left u [] cs, nothing-moves u cs)
 
+-- ---- ticks: example g on both sides of each timer, example h past the second
+
+pub early-fails-g19 : Examples early → ⊥
+unfolding computed
+early-fails-g19 holds = let shown : _≡_ {A = ℕ} 1 0 = ap depth (holds *g19 .1) in omega arith
+
+pub late-fails-g20 : Examples late → ⊥
+unfolding computed
+late-fails-g20 holds = let shown : _≡_ {A = ℕ} 0 1 = ap depth (holds *g20 .1) in omega arith
+
+pub early-fails-g49 : Examples early → ⊥
+unfolding computed
+early-fails-g49 holds = let shown : _≡_ {A = ℕ} 5 1 = ap depth (holds *g49 .1) in omega arith
+
+pub late-fails-g50 : Examples late → ⊥
+unfolding computed
+late-fails-g50 holds = let shown : _≡_ {A = ℕ} 1 5 = ap depth (holds *g50 .1) in omega arith
+
+pub lifts-fails-h : Examples lifts → ⊥
+unfolding computed
+lifts-fails-h holds = let shown : _≡_ {A = ℕ} 3 4 = ap depth (holds *h .1) in omega arith
+
 -- ---- "one that admits a single operation for the whole unit fails number 6, given only for a host's own"
 
 pub one-for-all-fails-numbers : Numbers oneForAll → ⊥
@@ -290,6 +375,13 @@ invents-count-fails-flush-count holds =
     in
     omega arith
 
+-- A waiting operation's progress says none after its flush.
+pub uncounts-fails-flush-count : FlushCount uncounts → ⊥
+unfolding computed
+uncounts-fails-flush-count holds =
+    let shown : _≡_ {A = ℕ} 0 1 = holds fresh (stops 0 ∷ next 0 ∷ answer 0 Good ∷ []) 0 refl refl .0 _ refl in
+    omega arith
+
 -- ---- answers lost
 
 abbrev stopImmediate : List ℕ
@@ -309,7 +401,22 @@ mutes-fails-report holds =
     let reported = holds fresh 0 stopImmediate (next 0 ∷ []) Bad _ refl refl refl refl in
     false≢true (ap isDue (reported .sense))
 
--- or not in what REQUEST SENSE tells.
+-- or the acceptance does not say GOOD,
+abbrev isGoodDue : Said → Bool
+isGoodDue (plain a) = false
+isGoodDue (accepted GoodDue) = true
+isGoodDue (accepted Pending) = false
+isGoodDue (accepted (NotAccepted r)) = false
+isGoodDue (sent n) = false
+isGoodDue (progressed p) = false
+
+pub owes-status-fails-report : EndReported owesStatus → ⊥
+unfolding computed
+owes-status-fails-report holds =
+    let reported = holds fresh 0 stopImmediate (next 0 ∷ []) Bad _ refl refl refl refl in
+    false≢true (ap isGoodDue (reported .acceptance))
+
+-- or the failure is not in what REQUEST SENSE tells.
 pub forgets-fails-failure : FailureTold forgets → ⊥
 unfolding computed
 forgets-fails-failure holds =
@@ -327,8 +434,9 @@ reports-twice-fails-fate holds =
 -- A held failure stays through all of these.
 abbrev meanwhile : List Call
 meanwhile =
-    -- a start of the host's own that ends well, with IMMED; a stop of its own that fails, without
+    -- starts of the host's own that end well, with IMMED and without; a stop of its own that fails, without
     startStop 0 (0x1B ∷ 1 ∷ 0 ∷ 0 ∷ 1 ∷ 0 ∷ []) ∷ next 0 ∷ answer 0 Good
+    ∷ startStop 0 startCdb ∷ next 0 ∷ answer 0 Good
     ∷ stops 0 ∷ next 0 ∷ answer 0 Bad
     -- its own REQUEST SENSE refused, with number 1
     ∷ requestSense 0 []
@@ -344,6 +452,67 @@ unfolding computed
 drops-all-held-fails-failure holds =
     let told = holds fresh 0 stopImmediate (next 0 ∷ []) Bad _ meanwhile (replicate 18 0) refl refl refl refl refl refl refl refl in
     let shown : _≡_ {A = ℕ} 0x70 0x71 = ap (λ (l : List ℕ). getD l 0 0) told in
+    omega arith
+
+-- Host 0's stop with IMMED, its flush out.
+abbrev stopOut : StepFunction → Unit
+stopOut by = runBy by fresh (startStop 0 stopImmediate ∷ next 0 ∷ [])
+
+-- A failure that is not held is not told,
+pub forgets-fails-held : HeldTold forgets → ⊥
+unfolding computed
+forgets-fails-held holds =
+    let told = holds (stopOut forgets) 0 Bad _ _ meanwhile (replicate 18 0) refl refl refl refl refl refl .0 in
+    let shown : _≡_ {A = ℕ} 0x70 0x71 = ap (λ (l : List ℕ). getD l 0 0) told in
+    omega arith
+
+-- and one that goes on being held is told more than once.
+abbrev isHolding : Held → Bool
+isHolding Nothing = false
+isHolding (Holds f) = true
+
+pub tells-again-fails-held : HeldTold tellsAgain → ⊥
+unfolding computed
+tells-again-fails-held holds =
+    true≢false (ap isHolding (holds (stopOut tellsAgain) 0 Bad _ _ meanwhile (replicate 18 0) refl refl refl refl refl refl .1))
+
+-- ---- what is said of the serial run
+
+-- An end report that is swallowed: the stop was accepted, and the serial run has none.
+pub swallows-fails-serial-run : SerialRun swallows → ⊥
+unfolding computed
+swallows-fails-serial-run holds =
+    let shown : _≡_ {A = ℕ} 0 1 =
+    ap length (holds fresh (stops 0 ∷ next 0 ∷ answer 0 Bad ∷ []) refl refl refl refl .one-each 0)
+    in
+    omega arith
+
+-- Two end reports of one stop: the serial run has two of it.
+pub reports-twice-fails-serial-run : SerialRun reportsTwice → ⊥
+unfolding computed
+reports-twice-fails-serial-run holds =
+    let twice = stops 0 ∷ next 0 ∷ answer 0 Bad ∷ next 0 ∷ answer 0 Good ∷ next 0 ∷ answer 0 Good ∷ [] in
+    let shown : _≡_ {A = ℕ} 2 1 = ap length (holds fresh twice refl refl refl refl .one-each 0) in
+    omega arith
+
+-- A read of a stopped unit, which the serial run refuses; and so it has one place fewer.
+pub works-stopped-fails-serial-run : SerialRun worksStopped → ⊥
+unfolding computed
+works-stopped-fails-serial-run holds =
+    let shown : _≡_ {A = ℕ} 1 0 = ap length (holds fresh (parks ++ read 1 ∷ []) refl refl refl refl .none-refused) in
+    omega arith
+
+pub works-stopped-leaves-place : SerialRun worksStopped → ⊥
+unfolding computed
+works-stopped-leaves-place holds =
+    let shown : _≡_ {A = ℕ} 1 2 = ap length (holds fresh (parks ++ read 1 ∷ []) refl refl refl refl .in-place) in
+    omega arith
+
+-- A stop that is taken for done at its flush: run whole it is not over.
+pub ends-at-flush-fails-serial-run : SerialRun endsAtFlush → ⊥
+unfolding computed
+ends-at-flush-fails-serial-run holds =
+    let shown : _≡_ {A = ℕ} 0 1 = ap length (holds fresh (stops 0 ∷ next 0 ∷ answer 0 Good ∷ []) refl refl refl refl .over) in
     omega arith
 
 -- ---- one that "always reports Active fails demand 2's tables"
