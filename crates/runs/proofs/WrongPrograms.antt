@@ -112,24 +112,24 @@ writesThrough u c =
     cond (isWrite c) (leaving (withOut (u .out) (o .unit)) o) (outcome u c)
 
 -- Another command is handed out for one with this code.
-abbrev pub handing : ℕ → Registers → Said → Said
-handing code other (plain a) = plain a
-handing code other (accepted a) = accepted a
-handing code other (sent (Send q)) = sent (Send (cond (eqb (q .command) code) other q))
-handing code other (sent (NotSent r)) = sent (NotSent r)
-handing code other (progressed p) = progressed p
+abbrev pub handedFor : ℕ → Registers → Said → Said
+handedFor code other (plain a) = plain a
+handedFor code other (accepted a) = accepted a
+handedFor code other (sent (Send q)) = sent (Send (cond (eqb (q .command) code) other q))
+handedFor code other (sent (NotSent r)) = sent (NotSent r)
+handedFor code other (progressed p) = progressed p
 
 -- One that parks the unit on a start: STANDBY IMMEDIATE is handed out for the verify.
 abbrev pub startParks : StepFunction
-startParks u c = saying (handing 0x40 (registersOf StandbyImmediate) (outcome u c .said)) (outcome u c)
+startParks u c = saying (handedFor 0x40 (registersOf StandbyImmediate) (outcome u c .said)) (outcome u c)
 
 -- One that flushes where a stop is due, asked to or not.
 abbrev pub flushesAnyway : StepFunction
-flushesAnyway u c = saying (handing 0xE0 (registersOf Flush) (outcome u c .said)) (outcome u c)
+flushesAnyway u c = saying (handedFor 0xE0 (registersOf Flush) (outcome u c .said)) (outcome u c)
 
 -- One whose ticks start the unit.
 abbrev pub tickStarts : StepFunction
-tickStarts u c = cond (sameKind c tick) (leaving (withMarks false (u .unsaved) (outcome u c .unit)) (outcome u c)) (outcome u c)
+tickStarts u c = cond (counts u c) (leaving (withMarks false (u .unsaved) (outcome u c .unit)) (outcome u c)) (outcome u c)
 
 -- One that takes reads and writes of a stopped unit; the mark stays.
 abbrev pub worksStopped : StepFunction
