@@ -13,6 +13,7 @@ use borrow.Author.Tests.{eqb-true, eqb-false, eq-eqb, ne-eqb, ltb-false, le-ltb,
 use Rattle.rows.specs.Rows.{someAt}
 use Rattle.rows.proofs.Some.{or-left, or-right, none-at, none-from, some-from, some-place}
 use Rattle.conditions.specs.Conditions.{placeOf}
+use Rattle.drive.specs.Records.{unsupported}
 use Rattle.drive.specs.declared.Record.{Record}
 use Rattle.bits.specs.Bits.{bits, bit}
 use Rattle.bits.specs.Reserved.{isNamed}
@@ -185,3 +186,18 @@ module _ (q : Registers) (rs : List Record) (z : Record) where
   -- A subcommand is accepted exactly if it has all this: "FFh is all or nothing".
   pub accepted-exactly : (aborts q rs ≡ false) ↔ Accepted q rs z
   accepted-exactly = (accepted-has, has-accepted)
+
+-- So an LBA aborts with any bit that is not named, whatever else the registers say, and with a number above 3h.
+module _ (q : Registers) (rs : List Record) where
+  unless : (Accepted q rs unsupported → ⊥) → aborts q rs ≡ true
+  unless none = on (aborts q rs) refl
+    where
+      on : (b : Bool) → aborts q rs ≡ b → aborts q rs ≡ true
+      on true e = e
+      on false e = absurd (none (accepted-has q rs unsupported e))
+
+  pub reserved-aborts : (k : ℕ) → k < 32 → isNamed k (namedBits (bits 3 0 (q .lba))) ≡ false → bit k (q .lba) ≡ true → aborts q rs ≡ true
+  reserved-aborts k below unnamed one = unless (λ a. true≢false (sym one ∙ a .reserved k below unnamed))
+
+  pub unknown-aborts : 3 < bits 3 0 (q .lba) → aborts q rs ≡ true
+  unknown-aborts above = unless (λ a. omega (arith, a .number))

@@ -1,23 +1,18 @@
 -- "Bits not named are reserved": the LBA bits that the table names, row by row, and that the abort knows every other one of bits 0 to 31. The
 -- ranges of the definition are counted out bit by bit (bits/Ranges) and are, for each subcommand number, the bits that its row leaves.
-use mathlib.Core.Path.{_≡_, sym, subst, _∙_}
-use mathlib.Core.Bool.{Bool, true, false, not, _||_, or-true, or-assoc}
+use mathlib.Core.Path.{_≡_, sym, subst}
+use mathlib.Core.Bool.{true, _||_}
 use mathlib.Core.List.{List, [], _∷_, _++_}
 use Prim.Native.Nat.{ℕ, _<_}
-use native.Mathlib.Nat.{le-of-suc-le-suc}
 use native.Mathlib.Omega.{arith}
 use lib.Dec.{eqb, ltb}
 use lib.ListN.{getD}
 use borrow.Author.Tests.{eqb-true, eqb-false, lt-ltb}
 use Rattle.rows.proofs.Choices.{chosen}
-use Rattle.drive.specs.declared.Record.{Record}
-use Rattle.bits.specs.Bits.{bits, bit}
-use Rattle.bits.specs.Reserved.{span, isNamed, someUnnamed}
-use Rattle.bits.proofs.Ranges.{range, two-ranges, unnamed-one}
-use Rattle.epc.specs.Epc.{subOf, reservedInLba, isUnknown, aborts}
-use Rattle.epc.specs.Inner.{misread}
-use Rattle.epc.proofs.Clauses.{together}
-use Rattle.registers.specs.declared.Registers.{Registers}
+use Rattle.bits.specs.Bits.{bits}
+use Rattle.bits.specs.Reserved.{span, someUnnamed}
+use Rattle.bits.proofs.Ranges.{range, two-ranges}
+use Rattle.epc.specs.Epc.{subOf, reservedInLba, isUnknown}
 use Rattle.epc.specs.declared.Sub.{Sub}
 use Rattle.epc.specs.declared.Sub.the-variants.{Restore, GoTo, SetTimer, SetState, Unknown}
 
@@ -58,26 +53,3 @@ pub reserved-exactly : (lba : ℕ)
 reserved-exactly lba =
     by-number (λ n sub. (isUnknown sub || reservedInLba sub lba) ≡ (ltb 3 n || someUnnamed 31 (namedBits n) lba)) (two-ranges 5 5 31 7 lba) (range 31 4 lba)
     (two-ranges 7 6 31 24 lba) (range 31 6 lba) (λ n above. rw (lt-ltb 3 n above)) lba
-
-read-wrong : (command feature unknown reserved : Bool) → (unknown || reserved) ≡ true → (command || feature || unknown || reserved) ≡ true
-read-wrong command feature unknown reserved h = rw (or-assoc (command || feature) unknown reserved, h) (or-true (command || feature))
-
-module _ (q : Registers) (rs : List Record) where
-  abbrev sub : Sub
-  sub = subOf (q .lba)
-
-  wrong-aborts : (ltb 3 (bits 3 0 (q .lba)) || someUnnamed 31 (namedBits (bits 3 0 (q .lba))) (q .lba)) ≡ true → aborts q rs ≡ true
-  wrong-aborts h =
-      let misread : misread q sub ≡ true =
-      read-wrong (not (eqb (q .command) 0xEF)) (not (eqb (q .feature) 0x4A)) (isUnknown sub) (reservedInLba sub (q .lba)) (reserved-exactly (q .lba) ∙ h) in
-      sym (together q rs) ∙ rw misread
-
-  -- A bit that is not named aborts if it is one, whatever else the registers say.
-  pub reserved-aborts : (k : ℕ) → k < 32 → isNamed k (namedBits (bits 3 0 (q .lba))) ≡ false → bit k (q .lba) ≡ true → aborts q rs ≡ true
-  reserved-aborts k below unnamed one =
-      let n = bits 3 0 (q .lba) in
-      wrong-aborts (rw (unnamed-one 31 (namedBits n) (q .lba) k (le-of-suc-le-suc below) unnamed one) (or-true (ltb 3 n)))
-
-  -- A number above 3h aborts, whatever else they say.
-  pub unknown-aborts : 3 < bits 3 0 (q .lba) → aborts q rs ≡ true
-  unknown-aborts above = wrong-aborts (rw (lt-ltb 3 (bits 3 0 (q .lba)) above))
