@@ -1,6 +1,9 @@
 // START STOP UNIT for four hosts over one ATA drive (T10 07-485r3): a CDB is accepted, and its operation waits.
+ghost use mathlib.Core.Bool.{cond};
 ghost use mathlib.Core.Path.{_≡_};
-ghost use Rattle.bridge.specs.Bridge.{startStopEffect, startStopSettled, startStopOutcome};
+ghost use Rattle.bridge.specs.Bridge.{startStopOutcome};
+ghost use Rattle.bridge.specs.Inner.{slotFor, acceptanceOf};
+ghost use Rattle.unit.specs.Units.{withSlot, rested};
 use cdb::Wanted;
 use operations::Acceptance;
 use refusals::Verdict;
@@ -12,34 +15,29 @@ pub struct StartStopped {
     pub unit: Unit,
 }
 
-fn start_stop_effect(u: Unit, host: u32, cdb: &[u8], w: Wanted) -> Unit
-    ensures { λ v. ⌜ v ≡ startStopEffect host (now (cdb .entry)) w u ⌝ }
+// What the CDB puts into the host's slot.
+fn slot_for(w: Wanted, cdb: &[u8]) -> Slot
+    ensures { λ s. ⌜ s ≡ slotFor w (now (cdb .entry)) ⌝ }
 {
     match w {
-        Wanted::Unlisted => u,
-        Wanted::Wants(t) => unit::with_slot(
-            unit::rest(u),
-            host,
-            Slot::Waiting(cdb::request_for(t, cdb)),
-        ),
+        Wanted::Unlisted => Slot::Empty,
+        Wanted::Wants(t) => Slot::Waiting(cdb::request_for(t, cdb)),
     }
 }
 
-fn accept(u: Unit, host: u32, cdb: &[u8], w: Wanted, v: Verdict) -> StartStopped
-    ensures { λ s. ⌜ s ≡ startStopSettled u host (now (cdb .entry)) w v ⌝ }
+// The operation waits in the host's slot and the idle count restarts, unless the record is kept as it is.
+fn wait_unless(u: Unit, kept: bool, host: u32, s: Slot) -> Unit
+    ensures { λ v. ⌜ v ≡ cond kept u (withSlot host s (rested u)) ⌝ }
+{
+    unit::with_slot_unless(unit::rest_unless(u, kept), kept, host, s)
+}
+
+fn acceptance_of(v: Verdict, immediate: bool) -> Acceptance
+    ensures { λ a. ⌜ a ≡ acceptanceOf v immediate ⌝ }
 {
     match v {
-        Verdict::Clear => {
-            let next = start_stop_effect(u, host, cdb, w);
-            StartStopped {
-                answer: operations::accepted_as(cdb::is_immed(cdb)),
-                unit: next,
-            }
-        }
-        Verdict::Given(r) => StartStopped {
-            answer: Acceptance::NotAccepted(r),
-            unit: u,
-        },
+        Verdict::Clear => operations::accepted_as(immediate),
+        Verdict::Given(r) => Acceptance::NotAccepted(r),
     }
 }
 
@@ -63,5 +61,11 @@ pub fn start_stop_unit(u: Unit, host: u32, cdb: &[u8]) -> StartStopped
         cdb::byte_at(cdb, 0),
         listed,
     );
-    accept(u, host, cdb, w, v)
+    let s = slot_for(w, cdb);
+    // Kept by a number; and where nothing is listed, which the verdict rules out.
+    let kept = refusals::is_given(v) | !unit::is_waiting(s);
+    StartStopped {
+        answer: acceptance_of(v, cdb::is_immed(cdb)),
+        unit: wait_unless(u, kept, host, s),
+    }
 }

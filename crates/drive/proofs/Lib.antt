@@ -5,3 +5,4 @@ pub mod WellFormed
 pub mod Maker
 pub mod Used
 pub mod Fields
+pub mod Kept

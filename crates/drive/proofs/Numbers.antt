@@ -1,11 +1,12 @@
 -- A record's numbers: the tests of the definition in the order in which the code makes them, and why zero numbers pass them all.
-use mathlib.Core.Path.{_≡_, refl}
-use mathlib.Core.Bool.{Bool, true, false, not, _&&_, _||_, and-true, and-false}
+use mathlib.Core.Path.{_≡_, refl, sym, _∙_}
+use mathlib.Core.Bool.{Bool, true, false, not, _&&_, _||_, and-true, and-false, or-true}
 use Prim.Native.Nat.{ℕ, zero, suc}
 use lib.Dec.{leb, eqb, leb·zero, leb·suc-suc, eqb·suc-zero}
 use mir.Val.{boolByte}
 use borrow.Author.Tests.{eqb-true, not-true}
 use Rattle.rows.proofs.Places.{and-left, and-right}
+use Rattle.drive.specs.Inner.{bounds, timersSet}
 use Rattle.drive.specs.Records.{largestRecovery, settingWellFormed, settingZero, othersZero, numbersWellFormed, recordWellFormed}
 use Rattle.drive.specs.declared.Setting.{Setting}
 use Rattle.drive.specs.declared.Record.{Record}
@@ -34,9 +35,7 @@ nonzeroIfOn s = not (s .enabled) || not (eqb (s .timer .0) 0)
 
 -- The four bounds in front, then the three flags.
 pub gathered : (top : ℕ) (r : Record)
-    → (leb (r .recovery .0) largestRecovery && leb (r .default .timer .0) top && leb (r .saved .timer .0) top && leb (r .current .timer .0) top
-    && nonzeroIfOn (r .default) && nonzeroIfOn (r .saved) && nonzeroIfOn (r .current))
-    ≡ numbersWellFormed top r
+    → (bounds top r && nonzeroIfOn (r .default) && nonzeroIfOn (r .saved) && nonzeroIfOn (r .current)) ≡ numbersWellFormed top r
 gathered top r =
     gather (leb (r .recovery .0) largestRecovery) (leb (r .default .timer .0) top) (leb (r .saved .timer .0) top) (leb (r .current .timer .0) top)
     (nonzeroIfOn (r .default)) (nonzeroIfOn (r .saved)) (nonzeroIfOn (r .current))
@@ -71,3 +70,32 @@ unsupported-fine top r h = rw h (by (othersZero r) refl)
     by : (b : Bool) → othersZero r ≡ b → (numbersWellFormed top r && othersZero r) ≡ othersZero r
     by true e = rw (e, and-true) (zero-numbers top r e)
     by false e = rw (e, and-false)
+
+abbrev isSet : Setting → Bool
+isSet s = not (eqb (s .timer .0) 0)
+
+-- A timer that is set lets any flag be, and is not zero.
+set-lets : (s : Setting) → isSet s ≡ true → nonzeroIfOn s ≡ true
+set-lets s h = rw (h, or-true)
+
+set-not-zero : (s : Setting) → isSet s ≡ true → settingZero s ≡ false
+set-not-zero s h = rw (not-true (eqb (s .timer .0) 0) h, and-false)
+
+-- Where no timer is zero the condition must be supported, and then the bounds decide.
+pub timers-set-fine : (top : ℕ) (r : Record) → timersSet r ≡ true → recordWellFormed top r ≡ (r .supported && bounds top r)
+timers-set-fine top r h = by (r .supported) refl
+  where
+    both : (isSet (r .default) && isSet (r .saved)) ≡ true
+    both = and-left _ (isSet (r .current)) h
+
+    current : isSet (r .current) ≡ true
+    current = and-right (isSet (r .default) && isSet (r .saved)) _ h
+
+    by : (b : Bool) → r .supported ≡ b → recordWellFormed top r ≡ (b && bounds top r)
+    by true e = supported-fine top r e ∙ sym (gathered top r) ∙ simp (
+      set-lets (r .default) (and-left (isSet (r .default)) (isSet (r .saved)) both),
+      set-lets (r .saved) (and-right (isSet (r .default)) (isSet (r .saved)) both),
+      set-lets (r .current) current,
+      and-true,
+    )
+    by false e = unsupported-fine top r e ∙ rw (set-not-zero (r .current) current, and-false)

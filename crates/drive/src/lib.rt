@@ -6,6 +6,8 @@ ghost use lib.Dec.{eqb};
 ghost use Rattle.rows.specs.Rows.{mapAt};
 ghost use Rattle.drive.specs.Drives.{withSettings, withRecords, withIdle, entered, restarted, counted, ranOut, timersAsk, byTimer, fallen, used, savedRestored, poweredOn, madeRecord};
 ghost use Rattle.drive.specs.Drives;
+ghost use Rattle.conditions.specs.declared.Power.the-variants.{Active};
+ghost use Rattle.drive.specs.Inner;
 ghost use Rattle.drive.specs.Records.{largest, numbersWellFormed, settingZero, othersZero, recordWellFormed, recordsWellFormed, driveWellFormed};
 use conditions::Cause;
 use conditions::Power;
@@ -71,6 +73,16 @@ fn others_zero(r: Record) -> bool
         & setting_zero(r.current)
 }
 
+// The numbers of a record within their bounds. Side by side, they become one comparison.
+fn bounds_ok(top: Tenths, r: Record) -> bool
+    ensures { λ ok. ⌜ ok ≡ Inner.bounds (top .0) r ⌝ }
+{
+    (r.recovery.0 <= 65535)
+        & (r.default.timer.0 <= top.0)
+        & (r.saved.timer.0 <= top.0)
+        & (r.current.timer.0 <= top.0)
+}
+
 // An enabled setting has a nonzero timer: the flag as a number is at most the timer.
 fn enabled_ok(s: Setting) -> bool
     ensures { λ ok. ⌜ ok ≡ not (s .enabled) || not (eqb (s .timer .0) 0) ⌝ }
@@ -78,22 +90,26 @@ fn enabled_ok(s: Setting) -> bool
     s.enabled as u32 <= s.timer.0
 }
 
-// The numbers of a record, its four bounds first: so they become one comparison.
 fn numbers_ok(top: Tenths, r: Record) -> bool
     ensures { λ ok. ⌜ ok ≡ numbersWellFormed (top .0) r ⌝ }
 {
-    (r.recovery.0 <= 65535)
-        & (r.default.timer.0 <= top.0)
-        & (r.saved.timer.0 <= top.0)
-        & (r.current.timer.0 <= top.0)
-        & enabled_ok(r.default)
-        & enabled_ok(r.saved)
-        & enabled_ok(r.current)
+    bounds_ok(top, r) & enabled_ok(r.default) & enabled_ok(r.saved) & enabled_ok(r.current)
 }
 
+// No timer of the record is zero. Then no enabled flag can be wrong, and a condition that is not supported is.
+fn timers_set(r: Record) -> bool
+    ensures { λ b. ⌜ b ≡ Inner.timersSet r ⌝ }
+{
+    (r.default.timer.0 != 0) & (r.saved.timer.0 != 0) & (r.current.timer.0 != 0)
+}
+
+// Most records have their timers set, and then support and the bounds decide.
 fn record_ok(top: Tenths, r: Record) -> bool
     ensures { λ ok. ⌜ ok ≡ recordWellFormed (top .0) r ⌝ }
 {
+    if timers_set(r) {
+        return r.supported & bounds_ok(top, r);
+    }
     if r.supported {
         numbers_ok(top, r)
     } else {
@@ -135,7 +151,7 @@ pub fn enter(d: Drive, p: Power) -> Drive
     }
 }
 
-fn with_idle(d: Drive, n: Tenths) -> Drive
+pub fn with_idle(d: Drive, n: Tenths) -> Drive
     ensures { λ r. ⌜ r ≡ withIdle (n .0) d ⌝ }
 {
     let mut e = d;
@@ -147,6 +163,13 @@ pub fn restart(d: Drive) -> Drive
     ensures { λ r. ⌜ r ≡ restarted d ⌝ }
 {
     with_idle(d, Tenths(0))
+}
+
+// An idle count as it was if it is kept, else 0.
+pub fn zero_unless(kept: bool, n: Tenths) -> Tenths
+    ensures { λ r. ⌜ r .0 ≡ cond kept (n .0) 0 ⌝ }
+{
+    if kept { n } else { Tenths(0) }
 }
 
 pub fn with_records(d: Drive, records: [Record; 5]) -> Drive
@@ -218,31 +241,48 @@ pub fn move_to(d: Drive, p: Power, n: Tenths) -> Drive
     enter(with_idle(d, n), p)
 }
 
-// The medium was used.
-pub fn use_medium(d: Drive) -> Drive
-    ensures { λ r. ⌜ r ≡ used d ⌝ }
+// The power as it was if it is kept, else Active.
+fn active_unless(kept: bool, p: Power) -> Power
+    ensures { λ r. ⌜ r ≡ cond kept p Active ⌝ }
 {
-    enter(restart(d), Power::Active)
+    if kept { p } else { Power::Active }
 }
 
-fn restore_saved(records: [Record; 5]) -> [Record; 5]
-    ensures { λ r. ⌜ r ≡ mapAt savedRestored 0 records ⌝ }
+// The medium was used, unless the drive is kept as it is.
+pub fn use_unless(d: Drive, kept: bool) -> Drive
+    ensures { λ r. ⌜ r ≡ cond kept d (used d) ⌝ }
+{
+    let power = d.power;
+    let idle = d.idle;
+    move_to(d, active_unless(kept, power), zero_unless(kept, idle))
+}
+
+pub fn pick_setting(b: bool, x: Setting, y: Setting) -> Setting
+    ensures { λ r. ⌜ r ≡ cond b x y ⌝ }
+{
+    if b { x } else { y }
+}
+
+// "current becomes saved for all five", unless they are kept.
+fn restore_unless(kept: bool, records: [Record; 5]) -> [Record; 5]
+    ensures { λ r. ⌜ r ≡ cond kept records (mapAt savedRestored 0 records) ⌝ }
 {
     let mut next = records;
     let mut i = 0;
     while i < 5 {
         let r = records[i];
-        next[i] = with_settings(r, r.saved, r.saved);
+        next[i] = with_settings(r, r.saved, pick_setting(kept, r.current, r.saved));
         i += 1;
     }
     next
 }
 
-pub fn power_on(d: Drive) -> Drive
-    ensures { λ r. ⌜ r ≡ poweredOn d ⌝ }
+// Power came on, unless the drive is kept as it is.
+pub fn power_on_unless(d: Drive, kept: bool) -> Drive
+    ensures { λ r. ⌜ r ≡ cond kept d (poweredOn d) ⌝ }
 {
     let records = d.records;
-    use_medium(with_records(d, restore_saved(records)))
+    use_unless(with_records(d, restore_unless(kept, records)), kept)
 }
 
 fn made_record(m: Made) -> Record

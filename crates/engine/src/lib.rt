@@ -2,8 +2,8 @@
 ghost use mathlib.Core.Bool.{cond};
 ghost use mathlib.Core.Path.{_≡_};
 ghost use Rattle.drive.specs.Drives.{withIdle, entered, counted, timersAsk, fallen};
-ghost use Rattle.engine.specs.Engine.{epcEffect, epcRefused, epcSettled, epcOutcome, manufactureOutcome, tickOutcome, readEffect, readOutcome, writeEffect, writeOutcome, powerOnEffect, powerOnOutcome, hardResetEffect, resetOutcome};
-ghost use Rattle.unit.specs.Units.{withDrive};
+ghost use Rattle.engine.specs.Engine.{epcEffect, epcRefused, epcOutcome, manufactureOutcome, tickOutcome, readEffect, readOutcome, writeEffect, writeOutcome, powerOnEffect, powerOnOutcome, hardResetEffect, resetOutcome};
+ghost use Rattle.unit.specs.Units.{withDrive, blank};
 use conditions::Power;
 use drive::Made;
 use drive::Record;
@@ -15,13 +15,21 @@ use refusals::Verdict;
 use registers::Registers;
 use unit::Unit;
 
+// Beside manufacture's refusal stands the blank unit, not what was asked for.
+fn blank_if(refused: bool, u: Unit) -> Unit
+    ensures { λ v. ⌜ v ≡ cond refused blank u ⌝ }
+{
+    if refused { unit::blank_unit() } else { u }
+}
+
 // A new unit: current = saved = default, Active, idle count 0, nothing waiting.
 pub fn manufacture(made: [Made; 5]) -> Called
     ensures { λ c. ⌜ c ≡ manufactureOutcome made ⌝ }
 {
     let u = unit::made_unit(made);
     let ok = unit::unit_ok(u);
-    outcomes::settle(unit::blank_unit(), u, refusals::record_verdict(ok))
+    let v = refusals::record_verdict(ok);
+    outcomes::settle(v, blank_if(refusals::is_given(v), u))
 }
 
 fn epc_effect(u: Unit, q: Registers) -> Unit
@@ -42,15 +50,22 @@ fn epc_refused(u: Unit, r: Refusal) -> Unit
     }
 }
 
-// The record that an accepted subcommand leaves, or that of the refusal.
-fn epc_settle(u: Unit, changed: Unit, v: Verdict) -> Called
-    ensures { λ c. ⌜ c ≡ epcSettled u changed v ⌝ }
+// SET FEATURES EPC. What an accepted subcommand leaves is made only once it is accepted.
+pub fn set_features(u: Unit, q: Registers) -> Called
+    ensures { λ c. ⌜ c ≡ epcOutcome u q ⌝ }
 {
+    let ok = unit::unit_ok(u);
+    let records = u.drive.records;
+    let out = u.out;
+    let v = refusals::epc_verdict(ok, unit::is_out(out), epc::aborts(q, records));
     match v {
-        Verdict::Clear => Called {
-            answer: Answer::Done,
-            unit: changed,
-        },
+        Verdict::Clear => {
+            let changed = epc_effect(u, q);
+            Called {
+                answer: Answer::Done,
+                unit: changed,
+            }
+        }
         Verdict::Given(r) => {
             let kept = epc_refused(u, r);
             Called {
@@ -61,15 +76,21 @@ fn epc_settle(u: Unit, changed: Unit, v: Verdict) -> Called
     }
 }
 
-// SET FEATURES EPC.
-pub fn set_features(u: Unit, q: Registers) -> Called
-    ensures { λ c. ⌜ c ≡ epcOutcome u q ⌝ }
+// With a command out, or refused, neither the count nor the power moves.
+fn ticked_idle(top: Tenths, still: bool, idle: Tenths) -> Tenths
+    ensures { λ n. ⌜ n .0 ≡ cond still (idle .0) (counted (top .0) (idle .0)) ⌝ }
 {
-    let ok = unit::unit_ok(u);
-    let records = u.drive.records;
-    let out = u.out;
-    let v = refusals::epc_verdict(ok, unit::is_out(out), epc::aborts(q, records));
-    epc_settle(u, epc_effect(u, q), v)
+    if still { idle } else { drive::count(top, idle) }
+}
+
+fn ticked_power(still: bool, records: [Record; 5], power: Power, idle: Tenths) -> Power
+    ensures { λ p. ⌜ p ≡ cond still power (fallen (timersAsk records (idle .0)) power) ⌝ }
+{
+    if still {
+        power
+    } else {
+        drive::timed_power(records, power, idle)
+    }
 }
 
 // The unit in another condition, with another idle count.
@@ -78,23 +99,6 @@ fn move_to(u: Unit, p: Power, n: Tenths) -> Unit
 {
     let d = u.drive;
     unit::with_drive(u, drive::move_to(d, p, n))
-}
-
-// With a command out neither the count nor the power moves.
-fn ticked_idle(top: Tenths, out: bool, idle: Tenths) -> Tenths
-    ensures { λ n. ⌜ n .0 ≡ cond out (idle .0) (counted (top .0) (idle .0)) ⌝ }
-{
-    if out { idle } else { drive::count(top, idle) }
-}
-
-fn ticked_power(out: bool, records: [Record; 5], power: Power, idle: Tenths) -> Power
-    ensures { λ p. ⌜ p ≡ cond out power (fallen (timersAsk records (idle .0)) power) ⌝ }
-{
-    if out {
-        power
-    } else {
-        drive::timed_power(records, power, idle)
-    }
 }
 
 // A tenth of a second has passed.
@@ -106,23 +110,26 @@ pub fn tick(u: Unit) -> Called
     let records = u.drive.records;
     let power = d.power;
     let out = u.out;
-    let still = unit::is_out(out);
+    let v = refusals::record_verdict(ok);
+    let still = refusals::is_given(v) | unit::is_out(out);
     let n = ticked_idle(unit::largest_of(u), still, u.drive.idle);
     let p = ticked_power(still, records, power, n);
-    outcomes::settle(u, move_to(u, p, n), refusals::record_verdict(ok))
+    outcomes::settle(v, move_to(u, p, n))
 }
 
-fn read_effect(u: Unit) -> Unit
-    ensures { λ v. ⌜ v ≡ readEffect u ⌝ }
+// "A read or write makes the unit Active, idle count 0;", unless the record is kept as it is.
+fn read_unless(u: Unit, kept: bool) -> Unit
+    ensures { λ v. ⌜ v ≡ cond kept u (readEffect u) ⌝ }
 {
     let d = u.drive;
-    unit::with_drive(u, drive::use_medium(d))
+    unit::with_drive(u, drive::use_unless(d, kept))
 }
 
-fn write_effect(u: Unit) -> Unit
-    ensures { λ v. ⌜ v ≡ writeEffect u ⌝ }
+// "a write also sets the unsaved mark."
+fn write_unless(u: Unit, kept: bool) -> Unit
+    ensures { λ v. ⌜ v ≡ cond kept u (writeEffect u) ⌝ }
 {
-    unit::with_marks(read_effect(u), u.stopped, true)
+    unit::with_marks(read_unless(u, kept), u.stopped, u.unsaved | !kept)
 }
 
 // A host has read from the medium.
@@ -131,11 +138,8 @@ pub fn read(u: Unit, host: u32) -> Called
 {
     let ok = unit::unit_ok(u);
     let out = u.out;
-    outcomes::settle(
-        u,
-        read_effect(u),
-        refusals::medium_verdict(host, ok, unit::is_out(out), u.stopped),
-    )
+    let v = refusals::medium_verdict(host, ok, unit::is_out(out), u.stopped);
+    outcomes::settle(v, read_unless(u, refusals::is_given(v)))
 }
 
 // A host has written to the medium: what it wrote is unsaved until a flush is answered good.
@@ -144,18 +148,20 @@ pub fn write(u: Unit, host: u32) -> Called
 {
     let ok = unit::unit_ok(u);
     let out = u.out;
-    outcomes::settle(
-        u,
-        write_effect(u),
-        refusals::medium_verdict(host, ok, unit::is_out(out), u.stopped),
-    )
+    let v = refusals::medium_verdict(host, ok, unit::is_out(out), u.stopped);
+    outcomes::settle(v, write_unless(u, refusals::is_given(v)))
 }
 
-fn power_on_effect(u: Unit) -> Unit
-    ensures { λ v. ⌜ v ≡ powerOnEffect u ⌝ }
+// "no operation, command out, deferred sense, stopped or unsaved mark", unless the record is kept as it is.
+fn power_on_unless(u: Unit, kept: bool) -> Unit
+    ensures { λ v. ⌜ v ≡ cond kept u (powerOnEffect u) ⌝ }
 {
     let d = u.drive;
-    unit::without_hosts(unit::with_marks(unit::with_drive(u, drive::power_on(d)), false, false))
+    let on = unit::with_drive(u, drive::power_on_unless(d, kept));
+    unit::without_hosts_unless(
+        unit::with_marks(on, u.stopped & kept, u.unsaved & kept),
+        kept,
+    )
 }
 
 // The drive's power came on.
@@ -163,20 +169,23 @@ pub fn power_on(u: Unit) -> Called
     ensures { λ c. ⌜ c ≡ powerOnOutcome u ⌝ }
 {
     let ok = unit::unit_ok(u);
-    outcomes::settle(u, power_on_effect(u), refusals::record_verdict(ok))
+    let v = refusals::record_verdict(ok);
+    outcomes::settle(v, power_on_unless(u, refusals::is_given(v)))
 }
 
-fn hard_reset_effect(u: Unit) -> Unit
-    ensures { λ v. ⌜ v ≡ hardResetEffect u ⌝ }
+// "idle count 0; operations, command out and deferred senses go", unless the record is kept as it is.
+fn hard_reset_unless(u: Unit, kept: bool) -> Unit
+    ensures { λ v. ⌜ v ≡ cond kept u (hardResetEffect u) ⌝ }
 {
-    unit::without_hosts(unit::rest(u))
+    unit::without_hosts_unless(unit::rest_unless(u, kept), kept)
 }
 
 pub fn hard_reset(u: Unit) -> Called
     ensures { λ c. ⌜ c ≡ resetOutcome u ⌝ }
 {
     let ok = unit::unit_ok(u);
-    outcomes::settle(u, hard_reset_effect(u), refusals::record_verdict(ok))
+    let v = refusals::record_verdict(ok);
+    outcomes::settle(v, hard_reset_unless(u, refusals::is_given(v)))
 }
 
 // A software reset is its own call with the effect of a hardware reset.

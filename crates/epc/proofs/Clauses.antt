@@ -1,5 +1,5 @@
 -- The clauses of the abort, apart as the paper has them and together as the code tests them.
-use mathlib.Core.Path.{_≡_, refl, ap, _∙_}
+use mathlib.Core.Path.{_≡_, refl, sym, ap, _∙_}
 use mathlib.Core.Bool.{Bool, true, false, not, _&&_, _||_}
 use mathlib.Core.List.{List}
 use Prim.Native.Nat.{ℕ}
@@ -8,7 +8,7 @@ use Rattle.rows.proofs.Some.{or-right, some-same, some-or, some-when}
 use Rattle.drive.specs.declared.Record.{Record}
 use Rattle.epc.specs.Epc.{subOf, save, selects, isGoTo, isEvery, isUnlisted, selectedWithout, aborts}
 use Rattle.registers.specs.Commands.{named}
-use Rattle.epc.specs.Inner.{misread, misnamed, selectedBarred}
+use Rattle.epc.specs.Inner.{misread, misnamed, selectedBarred, unfit}
 use Rattle.epc.specs.declared.Sub.{Sub}
 use Rattle.registers.specs.declared.Registers.{Registers}
 use Rattle.registers.specs.declared.Named.{Named}
@@ -62,6 +62,20 @@ together q rs =
     (joined (misread q sub) (isUnlisted n) (isGoTo sub && isEvery n) (not (someAt (selects sub n) 0 rs)) (selectedWithout (λ r. r .supported) sub n rs)
     (not (isGoTo sub) && selectedWithout (λ r. r .changeable) sub n rs)
     (save (q .lba) && selectedWithout (λ r. r .saveable) sub n rs))
+
+regrouped : (m n s b : Bool) → (m || n || s || b) ≡ (m || (n || s || b))
+regrouped true n s b = refl
+regrouped false n s b = refl
+
+-- The registers alone first, then Count and the records.
+pub in-turn : (q : Registers) (rs : List Record)
+    → (misread q (subOf (q .lba)) || unfit (subOf (q .lba)) (named (q .count)) (save (q .lba)) rs) ≡ aborts q rs
+in-turn q rs =
+    let sub = subOf (q .lba) in
+    let n = named (q .count) in
+    sym
+    (regrouped (misread q sub) (misnamed (isGoTo sub) n) (not (someAt (selects sub n) 0 rs)) (someAt (selectedBarred sub n (save (q .lba))) 0 rs))
+    ∙ together q rs
 
 -- Where nothing aborts, no selected condition bars the subcommand.
 pub none-barred : (q : Registers) (rs : List Record) → aborts q rs ≡ false

@@ -3,10 +3,12 @@ ghost use mathlib.Core.Bool.{cond};
 ghost use mathlib.Core.Path.{_≡_};
 ghost use Rattle.rows.specs.Rows.{someAt, mapAt};
 ghost use Rattle.drive.specs.Drives.{withSettings};
-ghost use Rattle.epc.specs.Epc.{subOf, reservedInLba, isUnknown, isGoTo, isUnlisted, isEvery, restoredFrom, savedToo, timerSet, flagSet, changed, changedAt, goneTo, performed};
+ghost use Rattle.epc.specs.Epc.{subOf, reservedInLba, isUnknown, isGoTo, restoredFrom, savedToo, timerSet, flagSet, changed, changedAt, goneTo, performed};
 ghost use Rattle.epc.specs.Epc;
 ghost use Rattle.epc.specs.Inner;
+ghost use Rattle.registers.specs.declared.Named.the-variants.{One, Every};
 use conditions::Cause;
+use conditions::Condition;
 use conditions::Power;
 use drive::Drive;
 use drive::Record;
@@ -80,26 +82,6 @@ fn is_go_to(sub: Sub) -> bool
     }
 }
 
-fn is_unlisted(n: Named) -> bool
-    ensures { λ r. ⌜ r ≡ isUnlisted n ⌝ }
-{
-    match n {
-        Named::One(_) => false,
-        Named::Every => false,
-        Named::Unlisted => true,
-    }
-}
-
-fn is_every(n: Named) -> bool
-    ensures { λ r. ⌜ r ≡ isEvery n ⌝ }
-{
-    match n {
-        Named::One(_) => false,
-        Named::Every => true,
-        Named::Unlisted => false,
-    }
-}
-
 // Whether a subcommand with this Count selects the condition at a place.
 fn selects(sub: Sub, n: Named, place: usize, r: Record) -> bool
     ensures { λ b. ⌜ b ≡ Epc.selects sub n place r ⌝ }
@@ -118,13 +100,6 @@ fn misread(q: Registers, sub: Sub) -> bool
     (q.command != 0xEF) | (q.feature != 0x4A) | is_unknown(sub) | reserved_in_lba(sub, q.lba)
 }
 
-// Count is not listed, or a go to names every condition.
-fn misnamed(goes: bool, n: Named) -> bool
-    ensures { λ r. ⌜ r ≡ Inner.misnamed goes n ⌝ }
-{
-    is_unlisted(n) | (goes & is_every(n))
-}
-
 // A selected condition that bars the subcommand: unsupported; not changeable, for all but go to; not saveable, with bit 4.
 fn barred(goes: bool, save: bool, r: Record) -> bool
     ensures { λ b. ⌜ b ≡ Inner.barred goes save r ⌝ }
@@ -132,14 +107,14 @@ fn barred(goes: bool, save: bool, r: Record) -> bool
     !r.supported | (!goes & !r.changeable) | (save & !r.saveable)
 }
 
-// What the selected conditions say together: whether there is one, and whether one of them bars the subcommand.
+// What the conditions that FFh selects say together: whether there is one, and whether one of them bars the subcommand.
 struct Seen {
     some: bool,
     barred: bool,
 }
 
-fn look(sub: Sub, n: Named, save: bool, records: [Record; 5]) -> Seen
-    ensures { λ r. ⌜ (r .some ≡ someAt (Epc.selects sub n) 0 records) × (r .barred ≡ someAt (Inner.selectedBarred sub n save) 0 records) ⌝ }
+fn look(sub: Sub, save: bool, records: [Record; 5]) -> Seen
+    ensures { λ r. ⌜ (r .some ≡ someAt (Epc.selects sub Every) 0 records) × (r .barred ≡ someAt (Inner.selectedBarred sub Every save) 0 records) ⌝ }
 {
     let goes = is_go_to(sub);
     let mut some = false;
@@ -147,7 +122,7 @@ fn look(sub: Sub, n: Named, save: bool, records: [Record; 5]) -> Seen
     let mut i = 0;
     while i < 5 {
         let r = records[i];
-        let selected = selects(sub, n, i, r);
+        let selected = selects(sub, Named::Every, i, r);
         some = some | selected;
         bars = bars | (selected & barred(goes, save, r));
         i += 1;
@@ -155,20 +130,57 @@ fn look(sub: Sub, n: Named, save: bool, records: [Record; 5]) -> Seen
     Seen { some, barred: bars }
 }
 
-// Decided before anything changes, so that FFh is all or nothing.
+// FFh: a go to, no condition selected, or one that bars the subcommand.
+fn every_unfit(sub: Sub, save: bool, records: [Record; 5]) -> bool
+    ensures { λ b. ⌜ b ≡ Inner.unfit sub Every save records ⌝ }
+{
+    let seen = look(sub, save, records);
+    is_go_to(sub) | !seen.some | seen.barred
+}
+
+// At the place that is asked for the record has its say; elsewhere what was said before stays.
+fn bars_at(here: bool, goes: bool, save: bool, r: Record, before: bool) -> bool
+    ensures { λ b. ⌜ b ≡ cond here (Inner.barred goes save r) before ⌝ }
+{
+    if here { barred(goes, save, r) } else { before }
+}
+
+// The one condition that Count names. A walk of all places: no copy of the records is made to look into.
+fn one_unfit(sub: Sub, save: bool, records: [Record; 5], c: Condition) -> bool
+    ensures { λ b. ⌜ b ≡ Inner.unfit sub (One c) save records ⌝ }
+{
+    let goes = is_go_to(sub);
+    let at = conditions::place_of(c);
+    let mut bars = false;
+    let mut i = 0;
+    while i < 5 {
+        bars = bars_at(i == at, goes, save, records[i], bars);
+        i += 1;
+    }
+    bars
+}
+
+// Count against the subcommand and the records.
+fn unfit(sub: Sub, n: Named, save: bool, records: [Record; 5]) -> bool
+    ensures { λ b. ⌜ b ≡ Inner.unfit sub n save records ⌝ }
+{
+    match n {
+        Named::One(c) => one_unfit(sub, save, records, c),
+        Named::Every => every_unfit(sub, save, records),
+        Named::Unlisted => true,
+    }
+}
+
+// Decided before anything changes, so that FFh is all or nothing; the registers alone first.
 pub fn aborts(q: Registers, records: [Record; 5]) -> bool
     ensures { λ r. ⌜ r ≡ Epc.aborts q records ⌝ }
 {
     let sub = sub_of(q.lba);
-    let n = registers::named_by(q.count);
-    let seen = look(sub, n, save(q.lba), records);
-    misread(q, sub) | misnamed(is_go_to(sub), n) | !seen.some | seen.barred
-}
-
-fn pick(b: bool, x: Setting, y: Setting) -> Setting
-    ensures { λ r. ⌜ r ≡ cond b x y ⌝ }
-{
-    if b { x } else { y }
+    if misread(q, sub) {
+        true
+    } else {
+        unfit(sub, registers::named_by(q.count), save(q.lba), records)
+    }
 }
 
 // The current setting changes; the saved one too with bit 4.
@@ -176,7 +188,7 @@ fn set_current(lba: u32, saved: Setting, current: Setting, r: Record) -> Record
     ensures { λ s. ⌜ s ≡ withSettings (savedToo lba saved r) current r ⌝ }
 {
     let kept = r.saved;
-    drive::with_settings(r, pick(save(lba), saved, kept), current)
+    drive::with_settings(r, drive::pick_setting(save(lba), saved, kept), current)
 }
 
 // From default with bit 6, else from saved.
@@ -185,7 +197,7 @@ fn restored_from(lba: u32, r: Record) -> Setting
 {
     let default = r.default;
     let saved = r.saved;
-    pick((lba >> 6) % 2 != 0, default, saved)
+    drive::pick_setting((lba >> 6) % 2 != 0, default, saved)
 }
 
 // Bits 23:8 are the timer; bit 5 enables it unless it is zero.

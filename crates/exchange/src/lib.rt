@@ -1,7 +1,13 @@
 // A host's next command, and the drive's answer to it (T10 07-485r3, 05-226r3).
+ghost use mathlib.Core.Bool.{cond};
 ghost use mathlib.Core.Path.{_≡_};
-ghost use Rattle.exchange.specs.Exchange.{nextEffect, nextOn, nextOutcome, answerOn, answerOutcome};
-ghost use Rattle.exchange.specs.Answered.{taken, flushedWell, heldIf, failed, succeeded, flushAnswered, lastAnswered, answeredFor};
+ghost use Prim.Native.Nat.{ℕ};
+ghost use Rattle.exchange.specs.Exchange.{nextEffect, nextOutcome, answerOn, answerSettled, answerOutcome};
+ghost use Rattle.exchange.specs.Answered.{flushedWell, failed, succeeded, flushAnswered, lastAnswered, answeredFor};
+ghost use Rattle.exchange.specs.Inner.{dueIn, nextOf, heldBy, left};
+ghost use Rattle.operations.specs.declared.Progress.the-variants.{NotTaken};
+ghost use Rattle.unit.specs.Units.{slotOf};
+ghost use Rattle.unit.specs.declared.Held.the-variants.{Nothing, Holds};
 use conditions::Power;
 use operations::Next;
 use operations::Progress;
@@ -25,27 +31,30 @@ pub struct Replied {
     pub unit: Unit,
 }
 
-fn next_effect(u: Unit, host: u32) -> Unit
-    ensures { λ v. ⌜ v ≡ nextEffect host u ⌝ }
+// The command is out for the host, unless the record is kept as it is.
+fn next_unless(u: Unit, kept: bool, host: u32) -> Unit
+    ensures { λ v. ⌜ v ≡ cond kept u (nextEffect host u) ⌝ }
 {
-    unit::with_out(unit::rest(u), Out::OutFor(host))
+    unit::with_out_unless(unit::rest_unless(u, kept), kept, Out::OutFor(host))
 }
 
-fn next_on(u: Unit, host: u32, s: Slot) -> Asked
-    ensures { λ a. ⌜ a ≡ nextOn u host s ⌝ }
+// The command due from a waiting operation.
+fn due_in(unsaved: bool, s: Slot) -> Next
+    ensures { λ a. ⌜ a ≡ dueIn unsaved s ⌝ }
 {
     match s {
-        Slot::Empty => Asked {
-            answer: Next::NotSent(Refusal::HasNone),
-            unit: u,
-        },
-        Slot::Waiting(q) => {
-            let next = next_effect(u, host);
-            Asked {
-                answer: Next::Send(operations::registers_of(operations::due_from(u.unsaved, q))),
-                unit: next,
-            }
-        }
+        Slot::Empty => Next::NotSent(Refusal::HasNone),
+        Slot::Waiting(q) => Next::Send(operations::registers_of(operations::due_from(unsaved, q))),
+    }
+}
+
+// The verdict's answer: its number, or the command due.
+fn next_of(v: Verdict, unsaved: bool, s: Slot) -> Next
+    ensures { λ a. ⌜ a ≡ nextOf v unsaved s ⌝ }
+{
+    match v {
+        Verdict::Clear => due_in(unsaved, s),
+        Verdict::Given(r) => Next::NotSent(r),
     }
 }
 
@@ -57,124 +66,180 @@ pub fn next_command(u: Unit, host: u32) -> Asked
     let out = u.out;
     let slots = u.slots;
     let s = unit::slot_of(slots, host);
-    let v = refusals::next_verdict(host, ok, unit::is_out(out), unit::is_waiting(s));
-    match v {
-        Verdict::Clear => next_on(u, host, s),
-        Verdict::Given(r) => Asked {
-            answer: Next::NotSent(r),
-            unit: u,
-        },
+    let waiting = unit::is_waiting(s);
+    let v = refusals::next_verdict(host, ok, unit::is_out(out), waiting);
+    Asked {
+        answer: next_of(v, u.unsaved, s),
+        unit: next_unless(u, refusals::is_given(v) | !waiting, host),
     }
 }
 
-// The command is no longer out; idle count 0.
-fn take(u: Unit) -> Unit
-    ensures { λ v. ⌜ v ≡ taken u ⌝ }
-{
-    unit::with_out(unit::rest(u), Out::NoneOut)
+// What an answer leaves, and what it tells. Where it is not taken, idle count, slot and what is out stay; power and marks are given either way.
+// `held` is a sense to hold now; with Nothing, what the host holds stays.
+struct After {
+    taken: bool,
+    power: Power,
+    stopped: bool,
+    unsaved: bool,
+    slot: Slot,
+    held: Held,
+    answer: Progress,
 }
 
 // A good flush: nothing is unsaved, and the operation goes on.
-fn flushed_well(u: Unit, host: u32, q: Request) -> Replied
-    ensures { λ r. ⌜ r ≡ flushedWell u host q ⌝ }
+fn flushed_well(u: Unit, q: Request) -> After
+    ensures { λ a. ⌜ ((host : ℕ) → left u host a ≡ flushedWell u host q) ⌝ }
 {
-    let clean = unit::with_marks(unit::with_power(take(u), Power::Active), u.stopped, false);
-    let next = unit::with_slot(clean, host, Slot::Waiting(operations::flush_counted(q)));
-    Replied {
+    After {
+        taken: true,
+        power: Power::Active,
+        stopped: u.stopped,
+        unsaved: false,
+        slot: Slot::Waiting(operations::flush_counted(q)),
+        held: Held::Nothing,
         answer: Progress::More,
-        unit: next,
     }
 }
 
 // With IMMED a failure is held for the host's REQUEST SENSE.
-fn held_if(u: Unit, immed: bool, host: u32, f: Failure) -> Unit
-    ensures { λ v. ⌜ v ≡ heldIf immed host f u ⌝ }
+fn held_if(immed: bool, f: Failure) -> Held
+    ensures { λ h. ⌜ h ≡ cond immed (Holds f) Nothing ⌝ }
 {
-    if immed {
-        unit::with_held(u, host, Held::Holds(f))
-    } else {
-        u
-    }
+    if immed { Held::Holds(f) } else { Held::Nothing }
 }
 
 // The operation is over and failed: Active, marks as before.
-fn fail(u: Unit, host: u32, q: Request, flushes: u8) -> Replied
-    ensures { λ r. ⌜ r ≡ failed u host q flushes ⌝ }
+fn fail(u: Unit, q: Request, flushes: u8) -> After
+    ensures { λ a. ⌜ ((host : ℕ) → left u host a ≡ failed u host q flushes) ⌝ }
 {
     let target = q.target;
     let f = operations::failure_of(target);
-    let over = unit::with_slot(unit::with_power(take(u), Power::Active), host, Slot::Empty);
-    let next = held_if(over, q.immed, host, f);
-    Replied {
+    After {
+        taken: true,
+        power: Power::Active,
+        stopped: u.stopped,
+        unsaved: u.unsaved,
+        slot: Slot::Empty,
+        held: held_if(q.immed, f),
         answer: Progress::Ended(operations::report_failed(q.immed, f, flushes)),
-        unit: next,
     }
 }
 
 // The last command went well: the unit is where the operation was to take it.
-fn succeed(u: Unit, host: u32, q: Request) -> Replied
-    ensures { λ r. ⌜ r ≡ succeeded u host q ⌝ }
+fn succeed(u: Unit, q: Request) -> After
+    ensures { λ a. ⌜ ((host : ℕ) → left u host a ≡ succeeded u host q) ⌝ }
 {
     let target = q.target;
     let stage = q.stage;
     let records = u.drive.records;
-    let there = unit::with_power(take(u), operations::reach(records, target));
-    let marked = unit::with_marks(there, operations::is_stop(target), u.unsaved);
-    let next = unit::with_slot(marked, host, Slot::Empty);
-    Replied {
+    After {
+        taken: true,
+        power: operations::reach(records, target),
+        stopped: operations::is_stop(target),
+        unsaved: u.unsaved,
+        slot: Slot::Empty,
+        held: Held::Nothing,
         answer: Progress::Ended(operations::report_good(q.immed, operations::flushes_of(stage))),
-        unit: next,
     }
 }
 
-fn flush_answered(u: Unit, host: u32, q: Request, reply: Reply) -> Replied
-    ensures { λ r. ⌜ r ≡ flushAnswered u host q reply ⌝ }
+fn flush_answered(u: Unit, q: Request, reply: Reply) -> After
+    ensures { λ a. ⌜ ((host : ℕ) → left u host a ≡ flushAnswered u host q reply) ⌝ }
 {
     let stage = q.stage;
     if operations::is_good(reply) {
-        flushed_well(u, host, q)
+        flushed_well(u, q)
     } else {
-        fail(
-            u,
-            host,
-            q,
-            operations::one_more(operations::flushes_of(stage)),
-        )
+        fail(u, q, operations::one_more(operations::flushes_of(stage)))
     }
 }
 
-fn last_answered(u: Unit, host: u32, q: Request, reply: Reply) -> Replied
-    ensures { λ r. ⌜ r ≡ lastAnswered u host q reply ⌝ }
+fn last_answered(u: Unit, q: Request, reply: Reply) -> After
+    ensures { λ a. ⌜ ((host : ℕ) → left u host a ≡ lastAnswered u host q reply) ⌝ }
 {
     let target = q.target;
     let stage = q.stage;
     if operations::counts_as_good(target, reply) {
-        succeed(u, host, q)
+        succeed(u, q)
     } else {
-        fail(u, host, q, operations::flushes_of(stage))
+        fail(u, q, operations::flushes_of(stage))
     }
 }
 
 // The command out is the one due: neither slot nor unsaved mark changes while it is out.
-fn answered_for(u: Unit, host: u32, q: Request, reply: Reply) -> Replied
-    ensures { λ r. ⌜ r ≡ answeredFor u host q reply ⌝ }
+fn answered_for(u: Unit, q: Request, reply: Reply) -> After
+    ensures { λ a. ⌜ ((host : ℕ) → left u host a ≡ answeredFor u host q reply) ⌝ }
 {
     if operations::is_flush(operations::due_from(u.unsaved, q)) {
-        flush_answered(u, host, q, reply)
+        flush_answered(u, q, reply)
     } else {
-        last_answered(u, host, q, reply)
+        last_answered(u, q, reply)
     }
 }
 
-fn answer_on(u: Unit, host: u32, reply: Reply, s: Slot) -> Replied
-    ensures { λ r. ⌜ r ≡ answerOn u host reply s ⌝ }
+// Refused: all stays.
+fn refuse(u: Unit, r: Refusal) -> After
+    ensures { λ a. ⌜ ((host : ℕ) → left u host a ≡ record { answer = NotTaken r; unit = u }) ⌝ }
+{
+    let d = u.drive;
+    let power = d.power;
+    After {
+        taken: false,
+        power,
+        stopped: u.stopped,
+        unsaved: u.unsaved,
+        slot: Slot::Empty,
+        held: Held::Nothing,
+        answer: Progress::NotTaken(r),
+    }
+}
+
+fn answer_on(u: Unit, reply: Reply, s: Slot) -> After
+    ensures { λ a. ⌜ ((host : ℕ) → left u host a ≡ answerOn u host reply s) ⌝ }
 {
     match s {
-        Slot::Empty => Replied {
-            answer: Progress::NotTaken(Refusal::HasNone),
-            unit: u,
-        },
-        Slot::Waiting(q) => answered_for(u, host, q, reply),
+        Slot::Empty => refuse(u, Refusal::HasNone),
+        Slot::Waiting(q) => answered_for(u, q, reply),
+    }
+}
+
+// By the verdict; `s` is the host's slot.
+fn answer_settled(u: Unit, reply: Reply, s: Slot, v: Verdict) -> After
+    ensures { λ a. ⌜ ((host : ℕ) → slotOf (u .slots) host ≡ s → left u host a ≡ answerSettled u host reply v) ⌝ }
+{
+    match v {
+        Verdict::Clear => answer_on(u, reply, s),
+        Verdict::Given(r) => refuse(u, r),
+    }
+}
+
+// "a failure is held as the host's deferred sense, replacing an older one"; with Nothing, what is held stays.
+fn hold(u: Unit, host: u32, h: Held) -> Unit
+    ensures { λ v. ⌜ v ≡ heldBy u host h ⌝ }
+{
+    match h {
+        Held::Nothing => u,
+        Held::Holds(f) => unit::with_held(u, host, Held::Holds(f)),
+    }
+}
+
+// The record that an answer leaves, built once. "Every answer sets idle count 0"; the command is no longer out.
+fn leave(u: Unit, host: u32, a: After) -> Replied
+    ensures { λ r. ⌜ r ≡ left u host a ⌝ }
+{
+    let kept = !a.taken;
+    let d = u.drive;
+    let power = a.power;
+    let slot = a.slot;
+    let held = a.held;
+    let answer = a.answer;
+    let idle = d.idle;
+    let moved = unit::with_drive(u, drive::move_to(d, power, drive::zero_unless(kept, idle)));
+    let marked = unit::with_marks(moved, a.stopped, a.unsaved);
+    let waits = unit::with_slot_unless(marked, kept, host, slot);
+    Replied {
+        answer,
+        unit: unit::with_out_unless(hold(waits, host, held), kept, Out::NoneOut),
     }
 }
 
@@ -184,15 +249,11 @@ pub fn answer(u: Unit, host: u32, reply: Reply) -> Replied
 {
     let ok = unit::unit_ok(u);
     let out = u.out;
+    let slots = u.slots;
     let v = refusals::answer_verdict(host, ok, unit::is_out_for(host, out));
-    match v {
-        Verdict::Clear => {
-            let slots = u.slots;
-            answer_on(u, host, reply, unit::slot_of(slots, host))
-        }
-        Verdict::Given(r) => Replied {
-            answer: Progress::NotTaken(r),
-            unit: u,
-        },
-    }
+    leave(
+        u,
+        host,
+        answer_settled(u, reply, unit::slot_of(slots, host), v),
+    )
 }

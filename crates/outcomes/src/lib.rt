@@ -1,5 +1,8 @@
 // What a call leaves that tells no more than whether it was done.
+ghost use mathlib.Core.Bool.{cond};
 ghost use mathlib.Core.Path.{_≡_};
+ghost use Rattle.refusals.specs.Refusals.{isGiven};
+ghost use Rattle.unit.specs.declared.Unit.{Unit};
 ghost use Rattle.outcomes.specs.Settled.{settled};
 use refusals::Answer;
 use refusals::Verdict;
@@ -10,18 +13,12 @@ pub struct Called {
     pub unit: Unit,
 }
 
-// The record that the effect leaves; a refusal returns it as it came.
-pub fn settle(u: Unit, effect: Unit, v: Verdict) -> Called
-    ensures { λ c. ⌜ c ≡ settled u effect v ⌝ }
+// The verdict's answer beside the one record that was built: as it came where a number is given, else what the effect leaves.
+pub fn settle(v: Verdict, next: Unit) -> Called
+    ensures { λ c. ⌜ ((u effect : Unit) → next ≡ cond (isGiven v) u effect → c ≡ settled u effect v) ⌝ }
 {
-    match v {
-        Verdict::Clear => Called {
-            answer: Answer::Done,
-            unit: effect,
-        },
-        Verdict::Given(r) => Called {
-            answer: Answer::Refused(r),
-            unit: u,
-        },
+    Called {
+        answer: refusals::answer_of(v),
+        unit: next,
     }
 }

@@ -45,9 +45,9 @@ pub fn request_sense(u: Unit, host: u32, buffer: &mut [u8]) -> Called
         Verdict::Clear => {
             let bytes = told(u, host);
             rows::copy_in(&bytes, buffer, 0);
-            outcomes::settle(u, sense_effect(u, host), Verdict::Clear)
+            outcomes::settle(Verdict::Clear, sense_effect(u, host))
         }
-        Verdict::Given(r) => outcomes::settle(u, u, Verdict::Given(r)),
+        Verdict::Given(r) => outcomes::settle(Verdict::Given(r), u),
     }
 }
 

@@ -8,6 +8,8 @@ use Rattle.refusals.specs.declared.Refusal.{Refusal}
 use Rattle.refusals.specs.declared.Refusal.the-variants.{BadLength, BadHost, BadRecord, CommandOut, HasNone, OwnWaiting, BadOpcode, BadField, IsStopped, Aborted}
 use Rattle.refusals.specs.declared.SenseDue.{SenseDue}
 use Rattle.refusals.specs.declared.SenseDue.the-variants.{NoSense, WithSense}
+use Rattle.refusals.specs.declared.Answer.{Answer}
+use Rattle.refusals.specs.declared.Answer.the-variants.{Done, Refused}
 use Rattle.refusals.specs.declared.Verdict.{Verdict}
 use Rattle.refusals.specs.declared.Verdict.the-variants.{Clear, Given}
 
@@ -83,6 +85,16 @@ lowest (row ∷ rows) = cond (row .applies) (Given (row .gives)) (lowest rows)
 abbrev pub orElse : Verdict → Verdict → Verdict
 orElse Clear next = next
 orElse (Given r) next = Given r
+
+-- Whether a number is given.
+abbrev pub isGiven : Verdict → Bool
+isGiven Clear = false
+isGiven (Given r) = true
+
+-- The answer of a call that tells no more than whether it was done.
+abbrev pub answerOf : Verdict → Answer
+answerOf Clear = Done
+answerOf (Given r) = Refused r
 
 -- ---- "The lowest number that applies"
 

@@ -2,7 +2,7 @@
 // No unit is needed.
 ghost use mathlib.Core.List.{[], _∷_};
 ghost use mathlib.Core.Path.{_≡_};
-ghost use Rattle.refusals.specs.Refusals.{numberOf, senseOf, _gives_, lowest, orElse};
+ghost use Rattle.refusals.specs.Refusals.{numberOf, senseOf, _gives_, lowest, orElse, isGiven, answerOf};
 ghost use Rattle.refusals.specs.Verdicts.{rowsOfHost, rowsOfRecord, rowsOfEpc, rowsOfMedium, rowsOfSense, rowsOfPage, rowsOfCdb, rowsOfStartStop, rowsOfNext, rowsOfAnswer};
 ghost use Rattle.refusals.specs.declared.SenseDue.the-variants.{WithSense};
 use senses::Sense;
@@ -97,6 +97,26 @@ fn or_else(v: Verdict, next: Verdict) -> Verdict
     match v {
         Verdict::Clear => next,
         Verdict::Given(r) => Verdict::Given(r),
+    }
+}
+
+// Whether a number is given.
+pub fn is_given(v: Verdict) -> bool
+    ensures { λ b. ⌜ b ≡ isGiven v ⌝ }
+{
+    match v {
+        Verdict::Clear => false,
+        Verdict::Given(_) => true,
+    }
+}
+
+// The answer of a call that tells no more than whether it was done.
+pub fn answer_of(v: Verdict) -> Answer
+    ensures { λ a. ⌜ a ≡ answerOf v ⌝ }
+{
+    match v {
+        Verdict::Clear => Answer::Done,
+        Verdict::Given(r) => Answer::Refused(r),
     }
 }
 

@@ -1,8 +1,8 @@
 // The unit's record: its types, how they are read and built, when a record is well formed, a new unit, and the sense of a failure. No call stands here.
+ghost use mathlib.Core.Bool.{cond};
 ghost use mathlib.Core.Path.{_≡_};
-ghost use Rattle.unit.specs.Units.{isOut, isOutFor, madeUnit, blank, slotOf, isWaiting, heldOf, slotWellFormed, hostsWellFormed, outWellFormed, wellFormed, largestOf, withDrive, withPower, withMarks, withSlot, withHeld, withOut, withoutHosts, rested};
-ghost use lib.ListN.{set};
-use conditions::Power;
+ghost use Rattle.unit.specs.Units.{isOut, isOutFor, madeUnit, blank, slotOf, isWaiting, heldOf, slotWellFormed, hostsWellFormed, outWellFormed, wellFormed, largestOf, withDrive, withMarks, withSlot, withHeld, withOut, withoutHosts, rested, emptySlot, noneHeld};
+ghost use lib.ListN.{set, replicate};
 use drive::Drive;
 use drive::Made;
 use drive::Millis;
@@ -162,13 +162,6 @@ pub fn with_drive(u: Unit, d: Drive) -> Unit
     v
 }
 
-pub fn with_power(u: Unit, p: Power) -> Unit
-    ensures { λ r. ⌜ r ≡ withPower p u ⌝ }
-{
-    let d = u.drive;
-    with_drive(u, drive::enter(d, p))
-}
-
 pub fn with_marks(u: Unit, stopped: bool, unsaved: bool) -> Unit
     ensures { λ r. ⌜ r ≡ withMarks stopped unsaved u ⌝ }
 {
@@ -220,6 +213,27 @@ pub fn with_held(u: Unit, host: u32, h: Held) -> Unit
     v
 }
 
+fn set_slot_unless(kept: bool, slots: [HostSlot; 4], host: u32, s: Slot) -> [HostSlot; 4]
+    ensures { λ r. ⌜ r ≡ cond kept slots (set slots host (record { slot = s })) ⌝ }
+{
+    if kept {
+        slots
+    } else {
+        set_slot(slots, host, s)
+    }
+}
+
+// The host's slot, unless the record is kept as it is.
+pub fn with_slot_unless(u: Unit, kept: bool, host: u32, s: Slot) -> Unit
+    ensures { λ r. ⌜ r ≡ cond kept u (withSlot host s u) ⌝ }
+{
+    let slots = u.slots;
+    let next = set_slot_unless(kept, slots, host, s);
+    let mut v = u;
+    v.slots = next;
+    v
+}
+
 // A whole literal, since the field is an enum, which is not stored to.
 pub fn with_out(u: Unit, out: Out) -> Unit
     ensures { λ r. ⌜ r ≡ withOut out u ⌝ }
@@ -237,16 +251,63 @@ pub fn with_out(u: Unit, out: Out) -> Unit
     }
 }
 
-// What every reset takes: operations, the command out and deferred senses.
-pub fn without_hosts(u: Unit) -> Unit
-    ensures { λ r. ⌜ r ≡ withoutHosts u ⌝ }
+fn out_unless(kept: bool, out: Out, next: Out) -> Out
+    ensures { λ r. ⌜ r ≡ cond kept out next ⌝ }
 {
+    if kept { out } else { next }
+}
+
+// What is out, unless the record is kept as it is.
+pub fn with_out_unless(u: Unit, kept: bool, next: Out) -> Unit
+    ensures { λ r. ⌜ r ≡ cond kept u (withOut next u) ⌝ }
+{
+    let out = u.out;
+    with_out(u, out_unless(kept, out, next))
+}
+
+fn no_slots_unless(kept: bool, slots: [HostSlot; 4]) -> [HostSlot; 4]
+    ensures { λ r. ⌜ r ≡ cond kept slots (replicate 4 emptySlot) ⌝ }
+{
+    if kept {
+        slots
+    } else {
+        [HostSlot { slot: Slot::Empty }; 4]
+    }
+}
+
+fn no_held_unless(kept: bool, held: [HostHeld; 4]) -> [HostHeld; 4]
+    ensures { λ r. ⌜ r ≡ cond kept held (replicate 4 noneHeld) ⌝ }
+{
+    if kept {
+        held
+    } else {
+        [HostHeld {
+            held: Held::Nothing,
+        }; 4]
+    }
+}
+
+// What every reset takes, operations, the command out and deferred senses, unless the record is kept as it is.
+pub fn without_hosts_unless(u: Unit, kept: bool) -> Unit
+    ensures { λ r. ⌜ r ≡ cond kept u (withoutHosts u) ⌝ }
+{
+    let slots = u.slots;
+    let held = u.held;
+    let emptied = no_slots_unless(kept, slots);
+    let dropped = no_held_unless(kept, held);
     let mut v = u;
-    v.slots = [HostSlot { slot: Slot::Empty }; 4];
-    v.held = [HostHeld {
-        held: Held::Nothing,
-    }; 4];
-    with_out(v, Out::NoneOut)
+    v.slots = emptied;
+    v.held = dropped;
+    with_out_unless(v, kept, Out::NoneOut)
+}
+
+// The idle count restarts, unless the record is kept as it is. Power and records stay where they lie.
+pub fn rest_unless(u: Unit, kept: bool) -> Unit
+    ensures { λ r. ⌜ r ≡ cond kept u (rested u) ⌝ }
+{
+    let d = u.drive;
+    let idle = d.idle;
+    with_drive(u, drive::with_idle(d, drive::zero_unless(kept, idle)))
 }
 
 // The idle count restarts.

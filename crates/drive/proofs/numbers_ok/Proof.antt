@@ -4,6 +4,9 @@ use borrow.Author.Needs.{needs}
 use Rattle.drive.proofs.numbers_ok.Statement.{statement}
 use Rattle.drive.proofs.numbers_ok.Tie as tie
 
+bounds-ok-requires : tie.Need-bounds-ok-requires
+bounds-ok-requires c κs = search needs
+
 enabled-ok-requires : tie.Need-enabled-ok-requires
 enabled-ok-requires c κs = search needs
 
@@ -15,11 +18,17 @@ enabled-ok-requires-3 c κs = search needs
 
 returns : tie.Need-returns
 returns c =
-    let bounds = c .before .before in
-    let looked = bounds .before .before .before .before in
-    let start = looked .before .before .before .before .args in
-    rw (c .enabled-ok3 .ensures, c .before .enabled-ok2 .ensures, bounds .enabled-ok .ensures) (gathered (start .top .0) (start .r))
+    let flags = c .before .before in
+    let start = flags .before .before .args in
+    rw (c .enabled-ok3 .ensures, c .before .enabled-ok2 .ensures, flags .enabled-ok .ensures, flags .before .bounds-ok .ensures)
+    (gathered (start .top .0) (start .r))
 
 pub numbers-ok-spec : {M : Type 1} → statement M
 numbers-ok-spec =
-    tie.close (tie.spec enabled-ok-requires enabled-ok-requires-2 enabled-ok-requires-3 returns)
+    tie.close
+    (tie.spec
+    bounds-ok-requires
+    enabled-ok-requires
+    enabled-ok-requires-2
+    enabled-ok-requires-3
+    returns)

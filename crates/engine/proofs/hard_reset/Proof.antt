@@ -1,5 +1,6 @@
--- The verdict and the effect are the definition's.
-use Rattle.engine.specs.Engine.{resetOutcome}
+-- Kept where a number is given: the one record is the one that the verdict asks for.
+use mathlib.Core.Path.{_∙_}
+use Rattle.engine.specs.Engine.{hardResetEffect, resetOutcome}
 use borrow.Author.Needs.{needs}
 use Rattle.engine.proofs.hard_reset.Statement.{statement}
 use Rattle.engine.proofs.hard_reset.Tie as tie
@@ -7,11 +8,14 @@ use Rattle.engine.proofs.hard_reset.Tie as tie
 unit-ok-requires : tie.Need-unit-ok-requires
 unit-ok-requires c κs = search needs
 
-hard-reset-effect-requires : tie.Need-hard-reset-effect-requires
-hard-reset-effect-requires c κs = search needs
-
 record-verdict-requires : tie.Need-record-verdict-requires
 record-verdict-requires c κs = search needs
+
+is-given-requires : tie.Need-is-given-requires
+is-given-requires c κs = search needs
+
+hard-reset-unless-requires : tie.Need-hard-reset-unless-requires
+hard-reset-unless-requires c κs = search needs
 
 settle-requires : tie.Need-settle-requires
 settle-requires c κs = search needs
@@ -19,19 +23,10 @@ settle-requires c κs = search needs
 returns : tie.Need-returns
 unfolding resetOutcome
 returns c =
-    rw (
-      c .settle .ensures,
-      c .before .record-verdict .ensures,
-      c .before .before .hard-reset-effect .ensures,
-      c .before .before .before .unit-ok .ensures,
-    )
+    let v = c .before .before .before in
+    let u = v .before .before .args .u in
+    c .settle .ensures u (hardResetEffect u) (rw (c .before .hard-reset-unless .ensures, c .before .before .is-given .ensures))
+    ∙ rw (v .record-verdict .ensures, v .before .unit-ok .ensures)
 
 pub hard-reset-spec : {M : Type 1} → statement M
-hard-reset-spec =
-    tie.close
-    (tie.spec
-    unit-ok-requires
-    hard-reset-effect-requires
-    record-verdict-requires
-    settle-requires
-    returns)
+hard-reset-spec = tie.close (tie.spec unit-ok-requires record-verdict-requires is-given-requires hard-reset-unless-requires settle-requires returns)

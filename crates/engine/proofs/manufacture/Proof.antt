@@ -1,4 +1,6 @@
 -- What is made is tested; beside a refusal stands the blank unit.
+use mathlib.Core.Path.{_∙_}
+use Rattle.unit.specs.Units.{madeUnit, blank}
 use Rattle.engine.specs.Engine.{manufactureOutcome}
 use borrow.Author.Needs.{needs}
 use Rattle.engine.proofs.manufacture.Statement.{statement}
@@ -10,11 +12,14 @@ made-unit-requires c κs = search needs
 unit-ok-requires : tie.Need-unit-ok-requires
 unit-ok-requires c κs = search needs
 
-blank-unit-requires : tie.Need-blank-unit-requires
-blank-unit-requires c κs = search needs
-
 record-verdict-requires : tie.Need-record-verdict-requires
 record-verdict-requires c κs = search needs
+
+is-given-requires : tie.Need-is-given-requires
+is-given-requires c κs = search needs
+
+blank-if-requires : tie.Need-blank-if-requires
+blank-if-requires c κs = search needs
 
 settle-requires : tie.Need-settle-requires
 settle-requires c κs = search needs
@@ -22,13 +27,11 @@ settle-requires c κs = search needs
 returns : tie.Need-returns
 unfolding manufactureOutcome
 returns c =
-    rw (
-      c .settle .ensures,
-      c .before .record-verdict .ensures,
-      c .before .before .blank-unit .ensures,
-      c .before .before .before .unit-ok .ensures,
-      c .before .before .before .before .made-unit .ensures,
-    )
+    let v = c .before .before .before in
+    let start = v .before .before in
+    c .settle .ensures blank (madeUnit (start .before .args .made))
+    (rw (c .before .blank-if .ensures, c .before .before .is-given .ensures, start .made-unit .ensures))
+    ∙ rw (v .record-verdict .ensures, v .before .unit-ok .ensures, start .made-unit .ensures)
 
 pub manufacture-spec : {M : Type 1} → statement M
 manufacture-spec =
@@ -36,7 +39,8 @@ manufacture-spec =
     (tie.spec
     made-unit-requires
     unit-ok-requires
-    blank-unit-requires
     record-verdict-requires
+    is-given-requires
+    blank-if-requires
     settle-requires
     returns)

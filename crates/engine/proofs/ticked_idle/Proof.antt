@@ -1,4 +1,4 @@
--- With a command out the count stays.
+-- Still, the count stays.
 use borrow.Author.Needs.{needs}
 use Rattle.engine.proofs.ticked_idle.Statement.{statement}
 use Rattle.engine.proofs.ticked_idle.Tie as tie

@@ -1,4 +1,4 @@
--- With a command out the power stays.
+-- Still, the power stays.
 use borrow.Author.Needs.{needs}
 use Rattle.engine.proofs.ticked_power.Statement.{statement}
 use Rattle.engine.proofs.ticked_power.Tie as tie

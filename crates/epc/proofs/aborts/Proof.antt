@@ -1,5 +1,5 @@
--- Each clause is a callee's word; those that ask the selected conditions are asked together.
-use Rattle.epc.proofs.Clauses.{together}
+-- The registers alone decide first; where they read right, Count and the records do.
+use Rattle.epc.proofs.Clauses.{in-turn}
 use borrow.Author.Needs.{needs}
 use Rattle.epc.proofs.aborts.Statement.{statement}
 use Rattle.epc.proofs.aborts.Tie as tie
@@ -7,48 +7,45 @@ use Rattle.epc.proofs.aborts.Tie as tie
 sub-of-requires : tie.Need-sub-of-requires
 sub-of-requires c κs = search needs
 
+misread-requires : tie.Need-misread-requires
+misread-requires c κs = search needs
+
 named-by-requires : tie.Need-named-by-requires
 named-by-requires c κs = search needs
 
 save-requires : tie.Need-save-requires
 save-requires c κs = search needs
 
-look-requires : tie.Need-look-requires
-look-requires c κs = search needs
-
-misread-requires : tie.Need-misread-requires
-misread-requires c κs = search needs
-
-is-go-to-requires : tie.Need-is-go-to-requires
-is-go-to-requires c κs = search needs
-
-misnamed-requires : tie.Need-misnamed-requires
-misnamed-requires c κs = search needs
+unfit-requires : tie.Need-unfit-requires
+unfit-requires c κs = search needs
 
 returns : tie.Need-returns
 returns c =
-    let a = c .before .before .before .before .before in
-    let n = a .before .before in
+    let a = c .before .before in
+    rw (← in-turn (a .before .args .q) (a .before .args .records), ← a .sub-of .ensures, ← c .before .misread .ensures, c .if1 .taken)
+
+returns-2 : tie.Need-returns-2
+returns-2 c =
+    let m = c .before .before .before .before in
+    let a = m .before in
     rw (
-      c .before .before .misnamed .ensures,
-      c .before .before .before .is-go-to .ensures,
-      c .before .before .before .before .misread .ensures,
-      a .look .ensures .0,
-      a .look .ensures .1,
-      a .before .save .ensures,
-      n .named-by .ensures,
-      n .before .sub-of .ensures,
-    ) (together (n .before .before .args .q) (n .before .before .args .records))
+      ← in-turn (a .before .args .q) (a .before .args .records),
+      ← a .sub-of .ensures,
+      ← m .misread .ensures,
+      c .before .before .before .if1 .left,
+      c .unfit .ensures,
+      c .before .save .ensures,
+      c .before .before .named-by .ensures,
+    )
 
 pub aborts-spec : {M : Type 1} → statement M
 aborts-spec =
     tie.close
     (tie.spec
     sub-of-requires
+    misread-requires
     named-by-requires
     save-requires
-    look-requires
-    misread-requires
-    is-go-to-requires
-    misnamed-requires
-    returns)
+    unfit-requires
+    returns
+    returns-2)

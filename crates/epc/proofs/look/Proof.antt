@@ -6,18 +6,19 @@ use native.Mathlib.Omega.{arith}
 use lib.ListN.{drop}
 use Rattle.rows.specs.Rows.{someAt}
 use Rattle.rows.proofs.Folds.{some-more, some-end}
+use Rattle.registers.specs.declared.Named.the-variants.{Every}
 use Rattle.epc.specs.Epc.{selects}
 use Rattle.epc.specs.Inner.{selectedBarred}
 use Rattle.epc.proofs.look.Statement.{statement}
 use Rattle.epc.proofs.look.Tie as tie
 
 abbrev Inv-loop : tie.InvT-loop
-Inv-loop sub n save records goes some₀ bars₀ i₀ some bars i = (i ≤ 5)
-    × ((some || someAt (selects sub n) i (drop i records)) ≡ someAt (selects sub n) 0 records)
-    × ((bars || someAt (selectedBarred sub n save) i (drop i records)) ≡ someAt (selectedBarred sub n save) 0 records)
+Inv-loop sub save records goes some₀ bars₀ i₀ some bars i = (i ≤ 5)
+    × ((some || someAt (selects sub Every) i (drop i records)) ≡ someAt (selects sub Every) 0 records)
+    × ((bars || someAt (selectedBarred sub Every save) i (drop i records)) ≡ someAt (selectedBarred sub Every save) 0 records)
 
 abbrev μ-loop : tie.MeasureT-loop
-μ-loop sub n save records goes some₀ bars₀ i₀ some bars i = 5 - i
+μ-loop sub save records goes some₀ bars₀ i₀ some bars i = 5 - i
 
 is-go-to-requires : tie.Need-is-go-to-requires Inv-loop μ-loop
 is-go-to-requires c κs = tt
@@ -48,17 +49,17 @@ loop-again c =
     let a = c .before .before .before .before in
     let q = a .before .before .args in (
       omega arith,
-      rw (c .before .selects .ensures) (some-more (selects (q .sub) (q .n)) (q .t4) (a .loop .i) _ (a .loop .some) (omega arith) ∙ a .loop .inv .1),
+      rw (c .before .selects .ensures) (some-more (selects (q .sub) Every) (q .t3) (a .loop .i) _ (a .loop .some) (omega arith) ∙ a .loop .inv .1),
       rw (c .barred .ensures, a .before .is-go-to .ensures, c .before .selects .ensures)
-          (some-more (selectedBarred (q .sub) (q .n) (q .save)) (q .t4) (a .loop .i) _ (a .loop .bars) (omega arith) ∙ a .loop .inv .2),
+          (some-more (selectedBarred (q .sub) Every (q .save)) (q .t3) (a .loop .i) _ (a .loop .bars) (omega arith) ∙ a .loop .inv .2),
     )
 
 returns : tie.Need-returns Inv-loop μ-loop
 returns c =
     let a = c .before in
     let q = a .before .before .args in (
-      sym (some-end (selects (q .sub) (q .n)) (q .t4) (a .loop .i) (a .loop .some) (omega arith)) ∙ a .loop .inv .1,
-      sym (some-end (selectedBarred (q .sub) (q .n) (q .save)) (q .t4) (a .loop .i) (a .loop .bars) (omega arith)) ∙ a .loop .inv .2,
+      sym (some-end (selects (q .sub) Every) (q .t3) (a .loop .i) (a .loop .some) (omega arith)) ∙ a .loop .inv .1,
+      sym (some-end (selectedBarred (q .sub) Every (q .save)) (q .t3) (a .loop .i) (a .loop .bars) (omega arith)) ∙ a .loop .inv .2,
     )
 
 pub look-spec : {M : Type 1} → statement M

@@ -1,5 +1,5 @@
--- By the verdict.
-use mathlib.Core.Path.{sym, _∙_}
+-- What is left for the verdict is the outcome.
+use mathlib.Core.Path.{sym}
 use Rattle.exchange.specs.Exchange.{answerOutcome}
 use borrow.Author.Needs.{needs}
 use Rattle.exchange.proofs.answer.Statement.{statement}
@@ -14,33 +14,28 @@ is-out-for-requires c κs = search needs
 answer-verdict-requires : tie.Need-answer-verdict-requires
 answer-verdict-requires c κs = search needs
 
-enum-told : tie.Need-enum-told
-enum-told c = search needs
-
 slot-of-requires : tie.Need-slot-of-requires
 slot-of-requires c κs = search needs
 
-answer-on-requires : tie.Need-answer-on-requires
-answer-on-requires c κs = search needs
+answer-settled-requires : tie.Need-answer-settled-requires
+answer-settled-requires c κs = search needs
 
-enum-known-v : tie.Need-enum-known-v
-enum-known-v c = search needs
+leave-requires : tie.Need-leave-requires
+leave-requires c κs = search needs
 
 returns : tie.Need-returns
 unfolding answerOutcome
 returns c =
-    let v = c .before .before .before .before .before in
-    let clear = rw (v .before .is-out-for .ensures, v .before .before .unit-ok .ensures)
-    at (sym (v .answer-verdict .ensures) ∙ c .before .before .before .enum-told .given .1) in
-    rw (clear, c .answer-on .ensures, c .before .slot-of .ensures)
-
-returns-2 : tie.Need-returns-2
-unfolding answerOutcome
-returns-2 c =
-    let v = c .before .before .before in
-    let given = rw (v .before .is-out-for .ensures, v .before .before .unit-ok .ensures)
-    at (sym (v .answer-verdict .ensures) ∙ c .before .v .given .1) in
-    rw given
+    let slot = c .before .before in
+    let v = slot .before in
+    let start = v .before .before .before in
+    rw (
+      c .leave .ensures,
+      c .before .answer-settled .ensures (start .before .args .host) (sym (slot .slot-of .ensures)),
+      v .answer-verdict .ensures,
+      v .before .is-out-for .ensures,
+      start .unit-ok .ensures,
+    )
 
 pub answer-spec : {M : Type 1} → statement M
 answer-spec =
@@ -49,9 +44,7 @@ answer-spec =
     unit-ok-requires
     is-out-for-requires
     answer-verdict-requires
-    enum-told
     slot-of-requires
-    answer-on-requires
-    enum-known-v
-    returns
-    returns-2)
+    answer-settled-requires
+    leave-requires
+    returns)

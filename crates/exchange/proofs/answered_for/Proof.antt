@@ -18,11 +18,15 @@ last-answered-requires c κs = search needs
 
 returns : tie.Need-returns
 unfolding answeredFor
-returns c = rw (← c .before .before .before .due-from .ensures, ← c .before .before .is-flush .ensures, c .before .if1 .taken, c .flush-answered .ensures)
+returns c =
+    let flush = c .before .before in
+    λ host. rw (← flush .before .due-from .ensures, ← flush .is-flush .ensures, c .before .if1 .taken) (c .flush-answered .ensures host)
 
 returns-2 : tie.Need-returns-2
 unfolding answeredFor
-returns-2 c = rw (← c .before .before .before .due-from .ensures, ← c .before .before .is-flush .ensures, c .before .if1 .left, c .last-answered .ensures)
+returns-2 c =
+    let flush = c .before .before in
+    λ host. rw (← flush .before .due-from .ensures, ← flush .is-flush .ensures, c .before .if1 .left) (c .last-answered .ensures host)
 
 pub answered-for-spec : {M : Type 1} → statement M
 answered-for-spec =

@@ -19,14 +19,14 @@ fail-requires : tie.Need-fail-requires
 fail-requires c κs = search needs
 
 returns : tie.Need-returns
-returns c = rw (← c .before .before .is-good .ensures, c .before .if1 .taken, c .flushed-well .ensures)
+returns c = λ host. rw (← c .before .before .is-good .ensures, c .before .if1 .taken) (c .flushed-well .ensures host)
 
 returns-2 : tie.Need-returns-2
 returns-2 c =
-    rw (
+    λ host. rw (
       ← c .before .before .before .before .is-good .ensures,
       c .before .before .before .if1 .left,
-      c .fail .ensures,
+      c .fail .ensures host,
       c .before .one-more .ensures,
       c .before .before .flushes-of .ensures,
     )

@@ -16,10 +16,16 @@ fail-requires : tie.Need-fail-requires
 fail-requires c κs = search needs
 
 returns : tie.Need-returns
-returns c = rw (← c .before .before .counts-as-good .ensures, c .before .if1 .taken, c .succeed .ensures)
+returns c = λ host. rw (← c .before .before .counts-as-good .ensures, c .before .if1 .taken) (c .succeed .ensures host)
 
 returns-2 : tie.Need-returns-2
-returns-2 c = rw (← c .before .before .before .counts-as-good .ensures, c .before .before .if1 .left, c .fail .ensures, c .before .flushes-of .ensures)
+returns-2 c =
+    λ host. rw (
+      ← c .before .before .before .counts-as-good .ensures,
+      c .before .before .if1 .left,
+      c .fail .ensures host,
+      c .before .flushes-of .ensures,
+    )
 
 pub last-answered-spec : {M : Type 1} → statement M
 last-answered-spec =

@@ -1,12 +1,11 @@
 -- A clear verdict says that the buffer has 18 bytes, and the copy fills it; a refusal touches nothing.
-use mathlib.Core.Path.{_≡_, sym, _∙_}
+use mathlib.Core.Path.{_≡_, refl, sym, _∙_}
 use native.Mathlib.Omega.{arith}
 use lib.ListN.{length}
 use denote.Ref.{now}
 use Rattle.refusals.proofs.Lowest.{clear-length}
 use Rattle.rows.proofs.Copied.{copied-whole}
-use Rattle.readouts.specs.Readouts.{senseOutcome, senseRows}
-use mathlib.Core.Path.{_≡_}
+use Rattle.readouts.specs.Readouts.{senseRows, senseEffect, senseOutcome}
 use Rattle.refusals.specs.Refusals.{lowest}
 use Rattle.refusals.specs.declared.Verdict.the-variants.{Clear}
 use borrow.Author.Needs.{needs}
@@ -64,7 +63,7 @@ returns c =
     rw (← v .before .before .unit-ok .ensures, ← v .before .is-out .ensures, ← v .sense-verdict .ensures) (told .before .enum-told .given .1) in
     let full : length (now (start .buffer)) ≡ 18 = clear-length _ _ _ clear in
     let whole = copied-whole (now (start .buffer)) (told .told .result) (omega (arith, told .told .ok)) in (
-      rw (clear, c .settle .ensures, c .before .sense-effect .ensures),
+      rw clear (c .settle .ensures (start .u) (senseEffect (start .host) (start .u)) (c .before .sense-effect .ensures)),
       rw (clear, copied .copy-in .ensures, whole) (told .told .ensures),
     )
 
@@ -72,9 +71,10 @@ returns-2 : tie.Need-returns-2
 unfolding senseOutcome
 returns-2 c =
     let v = c .before .before .before .before in
+    let start = v .before .before .before .before .args in
     let given = rw (v .before .is-out .ensures, v .before .before .unit-ok .ensures)
     at (sym (v .sense-verdict .ensures) ∙ c .before .before .v .given .1) in
-    (rw (given, c .settle2 .ensures), rw given)
+    (rw given (c .settle2 .ensures (start .u) (senseEffect (start .host) (start .u)) refl), rw given)
 
 pub request-sense-spec : {M : Type 1} → statement M
 request-sense-spec =

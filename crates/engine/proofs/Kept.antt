@@ -1,0 +1,51 @@
+-- A record made of picked fields is the one that was picked: by the flag, whether it is kept.
+use mathlib.Core.Path.{_≡_, refl}
+use mathlib.Core.Bool.{Bool, true, false, not, _&&_, _||_, cond, and-true, and-false, or-true, or-false}
+use Prim.Native.Nat.{ℕ}
+use Rattle.drive.specs.Drives.{withIdle, entered, counted, timersAsk, fallen, ticked, used, poweredOn}
+use Rattle.unit.specs.Units.{isOut, largestOf, withDrive, withMarks, withoutHosts}
+use Rattle.unit.specs.declared.Unit.{Unit}
+use Rattle.engine.specs.Engine.{tickEffect, readEffect, writeEffect, powerOnEffect}
+
+abbrev idleAfter : Bool → Unit → ℕ
+idleAfter still u = cond still (u .drive .idle .0) (counted (largestOf u) (u .drive .idle .0))
+
+-- Count and power move together unless they are still, and then neither does.
+moved : (still : Bool) (u : Unit)
+    → withDrive
+    (entered (cond still (u .drive .power) (fallen (timersAsk (u .drive .records) (idleAfter still u)) (u .drive .power)))
+    (withIdle (idleAfter still u) (u .drive)))
+    u
+    ≡ cond still u (withDrive (ticked (largestOf u) (u .drive)) u)
+unfolding ticked
+moved true u = refl
+moved false u = refl
+
+-- Still where the tick is refused or a command is out.
+pub tick-kept : (kept : Bool) (u : Unit)
+    → withDrive
+    (entered
+    (cond (kept || isOut (u .out)) (u .drive .power)
+    (fallen (timersAsk (u .drive .records) (idleAfter (kept || isOut (u .out)) u)) (u .drive .power)))
+    (withIdle (idleAfter (kept || isOut (u .out)) u) (u .drive)))
+    u
+    ≡ cond kept u (tickEffect u)
+tick-kept true u = refl
+tick-kept false u = moved (isOut (u .out)) u
+
+pub read-kept : (kept : Bool) (u : Unit) → withDrive (cond kept (u .drive) (used (u .drive))) u ≡ cond kept u (readEffect u)
+read-kept true u = refl
+read-kept false u = refl
+
+-- "a write also sets the unsaved mark."
+pub write-kept : (kept : Bool) (u : Unit)
+    → withMarks (u .stopped) (u .unsaved || not kept) (cond kept u (readEffect u)) ≡ cond kept u (writeEffect u)
+write-kept true u = rw or-false
+write-kept false u = rw or-true
+
+abbrev on : Bool → Unit → Unit
+on kept u = withMarks (u .stopped && kept) (u .unsaved && kept) (withDrive (cond kept (u .drive) (poweredOn (u .drive))) u)
+
+pub power-on-kept : (kept : Bool) (u : Unit) → cond kept (on kept u) (withoutHosts (on kept u)) ≡ cond kept u (powerOnEffect u)
+power-on-kept true u = rw (and-true (u .stopped), and-true (u .unsaved))
+power-on-kept false u = rw (and-false (u .stopped), and-false (u .unsaved))
