@@ -7,7 +7,9 @@ use borrow.Author.Tests.{eqb-true}
 use Rattle.rows.proofs.Places.{every-at}
 use Rattle.conditions.specs.declared.Condition.{Condition}
 use Rattle.conditions.specs.declared.Condition.the-variants.{IdleA, IdleB, IdleC, StandbyY, StandbyZ}
-use Rattle.conditions.specs.Conditions.{falling, placeOf, conditionAt}
+use Rattle.conditions.specs.declared.Power.{Power}
+use Rattle.conditions.specs.declared.Power.the-variants.{Active, Low}
+use Rattle.conditions.specs.Conditions.{falling, placeOf, conditionAt, depth}
 
 -- Every condition has a place below 5.
 pub place-below : (c : Condition) → placeOf c < 5
@@ -16,6 +18,11 @@ place-below IdleB = omega arith
 place-below IdleC = omega arith
 place-below StandbyY = omega arith
 place-below StandbyZ = omega arith
+
+-- So every depth is below 6.
+pub depth-below : (p : Power) → depth p < 6
+depth-below Active = omega arith
+depth-below (Low c why) = omega (arith, place-below c)
 
 -- At a condition's place stands that condition.
 pub at-place : (c : Condition) → conditionAt (placeOf c) ≡ c

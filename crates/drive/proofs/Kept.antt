@@ -1,20 +1,18 @@
--- A drive that is used or powered on unless it is kept: each field's choice between kept and new, taken together, is the choice between the whole drives.
+-- A drive that enters the power it has is kept. One that is powered on unless it is kept: each part's choice between kept and new, taken together, is
+-- the choice between the whole drives.
 use mathlib.Core.Path.{_≡_, refl, ap}
 use mathlib.Core.Bool.{Bool, true, false, cond}
 use mathlib.Core.List.{List, [], _∷_}
 use Prim.Native.Nat.{ℕ, suc}
 use Rattle.rows.specs.Rows.{mapAt}
-use Rattle.conditions.specs.declared.Power.the-variants.{Active}
+use Rattle.transitions.proofs.Counts.{held-kept}
 use Rattle.drive.specs.declared.Record.{Record}
 use Rattle.drive.specs.declared.Drive.{Drive}
-use Rattle.drive.specs.Drives.{withSettings, withRecords, withIdle, entered, used, savedRestored, poweredOn}
+use Rattle.drive.specs.Drives.{withSettings, withRecords, entered, used, savedRestored, poweredOn}
 
--- Power and idle count as they were, or Active and 0.
-pub used-kept : (kept : Bool) (d : Drive)
-    → entered (cond kept (d .power) Active) (withIdle (cond kept (d .idle .0) 0) d) ≡ cond kept d (used d)
-unfolding used
-used-kept true d = refl
-used-kept false d = refl
+-- "going to the condition already held counts nothing".
+pub entered-kept : (d : Drive) → entered (d .power) d ≡ d
+entered-kept d = rw (held-kept (d .power) (d .counts))
 
 -- A record whose current setting becomes the saved one unless it is kept.
 abbrev pub restoredUnless : Bool → ℕ → Record → Record

@@ -6,3 +6,4 @@ pub mod Maker
 pub mod Used
 pub mod Fields
 pub mod Kept
+pub mod Counted

@@ -1,10 +1,12 @@
--- Document 01, "Conditions and settings" and "Ticks, medium calls, resets", as far as they speak of the drive alone.
+-- Document 01, "Conditions and settings" and "Ticks, medium calls, resets", as far as they speak of the drive alone; document 02, request (i).
 use mathlib.Core.Bool.{Bool, _&&_, cond}
 use mathlib.Core.List.{List}
 use Prim.Native.Nat.{ℕ, _+_, _-_}
 use lib.Dec.{leb, ltb, eqb}
+use lib.ListN.{replicate}
 use Rattle.rows.specs.Rows.{foldAt, mapAt}
 use Rattle.conditions.specs.Conditions.{conditionAt, depth}
+use Rattle.transitions.specs.Counts.{countsAfter}
 use Rattle.drive.specs.declared.Setting.{Setting}
 use Rattle.drive.specs.declared.Record.{Record}
 use Rattle.conditions.specs.declared.Power.{Power}
@@ -27,18 +29,23 @@ withSettings s t r = record {
   current = t;
 }
 
-abbrev pub driveOf : List Record → Power → ℕ → Drive
-driveOf rs p n = record { records = rs; power = p; idle = record { 0 = n } }
+abbrev pub driveOf : List Record → Power → ℕ → List ℕ → Drive
+driveOf rs p n counts = record { records = rs; power = p; idle = record { 0 = n }; counts = counts }
 
 abbrev pub withRecords : List Record → Drive → Drive
-withRecords rs d = driveOf rs (d .power) (d .idle .0)
+withRecords rs d = driveOf rs (d .power) (d .idle .0) (d .counts)
 
 abbrev pub withIdle : ℕ → Drive → Drive
-withIdle n d = driveOf (d .records) (d .power) n
+withIdle n d = driveOf (d .records) (d .power) n (d .counts)
 
--- Every change of condition is this one.
+-- For a record that is set up from parts: no call of the layer changes the counts but by entering a condition.
+abbrev pub withCounts : List ℕ → Drive → Drive
+withCounts counts d = driveOf (d .records) (d .power) (d .idle .0) counts
+
+-- Every change of condition is this one. "The unit's record gains six counts, entries into Active and each of the five conditions" (document 02,
+-- request (i)): it is counted here.
 abbrev pub entered : Power → Drive → Drive
-entered p d = driveOf (d .records) p (d .idle .0)
+entered p d = driveOf (d .records) p (d .idle .0) (countsAfter (d .power) p (d .counts))
 
 -- ---- the idle count
 
@@ -83,14 +90,14 @@ ticked top d =
 unfoldable pub used : Drive → Drive
 used d = entered Active (restarted d)
 
--- "Power-on: current becomes saved for all five; Active; idle count 0".
+-- "Power-on: current becomes saved for all five; Active; idle count 0"; request (i): "a power-on change to Active counts as use".
 abbrev pub savedRestored : ℕ → Record → Record
 savedRestored place r = withSettings (r .saved) (r .saved) r
 
 unfoldable pub poweredOn : Drive → Drive
 poweredOn d = used (withRecords (mapAt savedRestored 0 (d .records)) d)
 
--- "At manufacture current, saved and default agree": Active, idle count 0.
+-- "At manufacture current, saved and default agree": Active, idle count 0. "the history since manufacture": nothing is counted yet.
 abbrev pub madeRecord : ℕ → Made → Record
 madeRecord place m = record {
   supported = m .supported;
@@ -103,7 +110,7 @@ madeRecord place m = record {
 }
 
 unfoldable pub made : List Made → Drive
-made ms = driveOf (mapAt madeRecord 0 ms) Active 0
+made ms = driveOf (mapAt madeRecord 0 ms) Active 0 (replicate 12 0)
 
 -- What the maker said of a condition: the part of its record that no call changes.
 abbrev pub makerOf : Record → Made

@@ -56,6 +56,7 @@ recordWellFormed top r = numbersWellFormed top r && (r .supported || othersZero 
 unfoldable pub recordsWellFormed : ℕ → List Record → Bool
 recordsWellFormed top rs = eqb (length rs) 5 && everyAt (λ at r. recordWellFormed top r) 0 rs
 
--- "no .. idle count is above 65,535". That the cause is timer or command below Active and none in Active, the type `Power` keeps.
+-- "no .. idle count is above 65,535". That the cause is timer or command below Active and none in Active, the
+-- type `Power` keeps. Of the transition counts nothing is asked: any 32 bits will do.
 unfoldable pub driveWellFormed : ℕ → Drive → Bool
 driveWellFormed top d = recordsWellFormed top (d .records) && leb (d .idle .0) top

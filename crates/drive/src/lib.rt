@@ -4,9 +4,8 @@ ghost use mathlib.Core.Path.{_≡_};
 ghost use Prim.Native.Nat.{_≤_};
 ghost use lib.Dec.{eqb};
 ghost use Rattle.rows.specs.Rows.{mapAt};
-ghost use Rattle.drive.specs.Drives.{withSettings, withRecords, withIdle, entered, restarted, counted, ranOut, timersAsk, byTimer, fallen, used, savedRestored, poweredOn, madeRecord};
+ghost use Rattle.drive.specs.Drives.{withSettings, withRecords, withIdle, withCounts, entered, restarted, counted, ranOut, timersAsk, byTimer, fallen, used, savedRestored, poweredOn, madeRecord};
 ghost use Rattle.drive.specs.Drives;
-ghost use Rattle.conditions.specs.declared.Power.the-variants.{Active};
 ghost use Rattle.drive.specs.Inner;
 ghost use Rattle.drive.specs.Records.{largest, numbersWellFormed, settingZero, othersZero, recordWellFormed, recordsWellFormed, driveWellFormed};
 use conditions::Cause;
@@ -34,10 +33,12 @@ pub struct Record {
     pub current: Setting,
 }
 
+// The transition counts are "kept flat inside the record", and go as a table of six rows of two between functions.
 pub struct Drive {
     pub records: [Record; 5],
     pub power: Power,
     pub idle: Tenths,
+    pub counts: [u32; 12],
 }
 
 // What the maker says of a condition.
@@ -138,16 +139,20 @@ pub fn drive_ok(top: Tenths, d: Drive) -> bool
     records_ok(top, records) & (d.idle.0 <= top.0)
 }
 
-// Every change of condition goes through here.
+// Every change of condition goes through here, and is counted here alone.
 pub fn enter(d: Drive, p: Power) -> Drive
     ensures { λ r. ⌜ r ≡ entered p d ⌝ }
 {
     let records = d.records;
+    let before = d.power;
     let idle = d.idle;
+    let counts = d.counts;
+    let counted = transitions::count_entry(transitions::table_of(counts), before, p);
     Drive {
         records,
         power: p,
         idle,
+        counts: transitions::flat_of(counted),
     }
 }
 
@@ -170,6 +175,15 @@ pub fn zero_unless(kept: bool, n: Tenths) -> Tenths
     ensures { λ r. ⌜ r .0 ≡ cond kept (n .0) 0 ⌝ }
 {
     if kept { n } else { Tenths(0) }
+}
+
+// Other counts: for a record that is set up from parts. No call of the layer comes here.
+pub fn with_counts(d: Drive, counts: [u32; 12]) -> Drive
+    ensures { λ r. ⌜ r ≡ withCounts counts d ⌝ }
+{
+    let mut e = d;
+    e.counts = counts;
+    e
 }
 
 pub fn with_records(d: Drive, records: [Record; 5]) -> Drive
@@ -241,20 +255,17 @@ pub fn move_to(d: Drive, p: Power, n: Tenths) -> Drive
     enter(with_idle(d, n), p)
 }
 
-// The power as it was if it is kept, else Active.
-fn active_unless(kept: bool, p: Power) -> Power
-    ensures { λ r. ⌜ r ≡ cond kept p Active ⌝ }
-{
-    if kept { p } else { Power::Active }
-}
-
-// The medium was used, unless the drive is kept as it is.
+// The medium was used, unless the drive is kept as it is. Only the entry is under the branch: what it counts is then at a fixed place.
 pub fn use_unless(d: Drive, kept: bool) -> Drive
     ensures { λ r. ⌜ r ≡ cond kept d (used d) ⌝ }
 {
-    let power = d.power;
     let idle = d.idle;
-    move_to(d, active_unless(kept, power), zero_unless(kept, idle))
+    let next = with_idle(d, zero_unless(kept, idle));
+    if kept {
+        next
+    } else {
+        enter(next, Power::Active)
+    }
 }
 
 pub fn pick_setting(b: bool, x: Setting, y: Setting) -> Setting
@@ -314,7 +325,7 @@ fn made_records(made: [Made; 5]) -> [Record; 5]
     records
 }
 
-// Current, saved and default agree; Active, idle count 0.
+// Current, saved and default agree; Active, idle count 0, nothing counted.
 pub fn manufacture(made: [Made; 5]) -> Drive
     ensures { λ r. ⌜ r ≡ Drives.made made ⌝ }
 {
@@ -323,5 +334,6 @@ pub fn manufacture(made: [Made; 5]) -> Drive
         records,
         power: Power::Active,
         idle: Tenths(0),
+        counts: [0; 12],
     }
 }

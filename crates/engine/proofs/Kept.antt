@@ -1,7 +1,8 @@
 -- A record made of picked fields is the one that was picked: by the flag, whether it is kept.
-use mathlib.Core.Path.{_≡_, refl}
+use mathlib.Core.Path.{_≡_, refl, ap}
 use mathlib.Core.Bool.{Bool, true, false, not, _&&_, _||_, cond, and-true, and-false, or-true, or-false}
 use Prim.Native.Nat.{ℕ}
+use Rattle.drive.proofs.Kept.{entered-kept}
 use Rattle.drive.specs.Drives.{withIdle, entered, counted, timersAsk, fallen, ticked, used, poweredOn}
 use Rattle.unit.specs.Units.{isOut, largestOf, withDrive, withMarks, withoutHosts}
 use Rattle.unit.specs.declared.Unit.{Unit}
@@ -18,7 +19,7 @@ moved : (still : Bool) (u : Unit)
     u
     ≡ cond still u (withDrive (ticked (largestOf u) (u .drive)) u)
 unfolding ticked
-moved true u = refl
+moved true u = ap (λ d. withDrive d u) (entered-kept (u .drive))
 moved false u = refl
 
 -- Still where the tick is refused or a command is out.
@@ -30,7 +31,7 @@ pub tick-kept : (kept : Bool) (u : Unit)
     (withIdle (idleAfter (kept || isOut (u .out)) u) (u .drive)))
     u
     ≡ cond kept u (tickEffect u)
-tick-kept true u = refl
+tick-kept true u = moved true u
 tick-kept false u = moved (isOut (u .out)) u
 
 pub read-kept : (kept : Bool) (u : Unit) → withDrive (cond kept (u .drive) (used (u .drive))) u ≡ cond kept u (readEffect u)

@@ -87,7 +87,7 @@ unfoldable pub powerOnOutcome : Unit → Called
 powerOnOutcome u = settled u (powerOnEffect u) (lowest (resetRows u))
 
 -- "Hardware and software reset (001: condition kept): settings, condition, stopped and unsaved marks stay; idle count 0; operations, command
--- out and deferred senses go."
+-- out and deferred senses go." Document 02, request (i): "Resets keep the counts".
 abbrev pub hardResetEffect : Unit → Unit
 hardResetEffect u = withoutHosts (rested u)
 

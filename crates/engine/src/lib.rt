@@ -1,9 +1,9 @@
 // The calls on a unit that need no START STOP UNIT and no buffer: manufacture, EPC, ticks, the medium, resets.
 ghost use mathlib.Core.Bool.{cond};
 ghost use mathlib.Core.Path.{_≡_};
-ghost use Rattle.drive.specs.Drives.{withIdle, entered, counted, timersAsk, fallen};
+ghost use Rattle.drive.specs.Drives.{counted, timersAsk, fallen};
 ghost use Rattle.engine.specs.Engine.{epcEffect, epcRefused, epcOutcome, manufactureOutcome, tickOutcome, readEffect, readOutcome, writeEffect, writeOutcome, powerOnEffect, powerOnOutcome, hardResetEffect, resetOutcome};
-ghost use Rattle.unit.specs.Units.{withDrive, blank};
+ghost use Rattle.unit.specs.Units.{blank};
 use conditions::Power;
 use drive::Made;
 use drive::Record;
@@ -93,15 +93,7 @@ fn ticked_power(still: bool, records: [Record; 5], power: Power, idle: Tenths) -
     }
 }
 
-// The unit in another condition, with another idle count.
-fn move_to(u: Unit, p: Power, n: Tenths) -> Unit
-    ensures { λ v. ⌜ v ≡ withDrive (entered p (withIdle (n .0) (u .drive))) u ⌝ }
-{
-    let d = u.drive;
-    unit::with_drive(u, drive::move_to(d, p, n))
-}
-
-// A tenth of a second has passed.
+// A tenth of a second has passed. The drive is read before the power is known: where that is kept, the compiler then sees that nothing is entered.
 pub fn tick(u: Unit) -> Called
     ensures { λ c. ⌜ c ≡ tickOutcome u ⌝ }
 {
@@ -114,7 +106,7 @@ pub fn tick(u: Unit) -> Called
     let still = refusals::is_given(v) | unit::is_out(out);
     let n = ticked_idle(unit::largest_of(u), still, u.drive.idle);
     let p = ticked_power(still, records, power, n);
-    outcomes::settle(v, move_to(u, p, n))
+    outcomes::settle(v, unit::with_drive(u, drive::move_to(d, p, n)))
 }
 
 // "A read or write makes the unit Active, idle count 0;", unless the record is kept as it is.

@@ -5,3 +5,4 @@ pub mod Fields
 pub mod OneCondition
 pub mod Reserved
 pub mod WellFormed
+pub mod Counted

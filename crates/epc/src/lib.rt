@@ -2,7 +2,7 @@
 ghost use mathlib.Core.Bool.{cond};
 ghost use mathlib.Core.Path.{_≡_};
 ghost use Rattle.rows.specs.Rows.{someAt, mapAt};
-ghost use Rattle.drive.specs.Drives.{withSettings};
+ghost use Rattle.drive.specs.Drives.{withSettings, entered};
 ghost use Rattle.epc.specs.Epc.{subOf, reservedInLba, isUnknown, isGoTo, restoredFrom, savedToo, timerSet, flagSet, changed, changedAt, goneTo, performed};
 ghost use Rattle.epc.specs.Epc;
 ghost use Rattle.epc.specs.Inner;
@@ -265,15 +265,23 @@ fn change_all(q: Registers, records: [Record; 5]) -> [Record; 5]
     next
 }
 
-// The unit enters the condition, cause command.
+// The condition that Count names, cause command; else the power as it is.
+fn power_named(n: Named, p: Power) -> Power
+    ensures { λ r. ⌜ ((d : Drive) → d .power ≡ p → entered r d ≡ goneTo n d) ⌝ }
+{
+    match n {
+        Named::One(c) => Power::Low(c, Cause::Command),
+        Named::Every => p,
+        Named::Unlisted => p,
+    }
+}
+
+// The unit enters the condition. The power is chosen, not the drive: entering the power that it has changes nothing.
 fn go_to(d: Drive, n: Named) -> Drive
     ensures { λ r. ⌜ r ≡ goneTo n d ⌝ }
 {
-    match n {
-        Named::One(c) => drive::enter(d, Power::Low(c, Cause::Command)),
-        Named::Every => d,
-        Named::Unlisted => d,
-    }
+    let power = d.power;
+    drive::enter(d, power_named(n, power))
 }
 
 // A subcommand that is not aborted; the idle count restarts.

@@ -54,6 +54,10 @@ pub use readouts::log_page;
 pub use readouts::request_sense;
 pub use senses::Sense;
 
+// Transition counts (document 02, request (i)).
+pub use readouts::transition_counts;
+pub use readouts::transitions_page;
+
 // Numbers given back.
 pub use outcomes::Called;
 pub use refusals::Answer;

@@ -1,4 +1,4 @@
--- The whole outcome of REQUEST SENSE and of the log page: document 01, "Sense and log bytes".
+-- The whole outcome of REQUEST SENSE and of the log pages: document 01, "Sense and log bytes", and document 02, request (i).
 use mathlib.Core.Bool.{true, false}
 use mathlib.Core.List.{List}
 use Prim.Native.Nat.{ℕ}
@@ -6,6 +6,8 @@ use lib.ListN.{length}
 use Rattle.conditions.specs.declared.Power.{Power}
 use Rattle.senses.specs.Senses.{senseBytes, powerSense}
 use Rattle.pages.specs.Logs.{logBytes}
+use Rattle.transitions.specs.Counts.{tableOf}
+use Rattle.transitions.specs.Page.{transitionBytes}
 use Rattle.unit.specs.Units.{isOut, heldOf, wellFormed, withHeld, rested}
 use Rattle.requests.specs.Requests.{failureSense}
 use Rattle.refusals.specs.Refusals.{Row, lowest}
@@ -55,3 +57,18 @@ logRows u buffer = rowsOfPage 512 (length buffer) (wellFormed u)
 -- "Reading the log page changes no record."
 unfoldable pub logOutcome : Unit → List ℕ → Filled
 logOutcome u buffer = filled u u (logBytes (u .drive .records)) buffer (lowest (logRows u buffer))
+
+-- ---- the Power Condition Transitions log page, and the table it is made of
+
+-- "Refusals: only 1, for a page buffer not 52 bytes, and 3."
+abbrev pub transitionsRows : Unit → List ℕ → List Row
+transitionsRows u buffer = rowsOfPage 52 (length buffer) (wellFormed u)
+
+-- "a table of six rows of two (timer, command or use), handed over by value": a bare table has no room for a number, so it is the record's counts,
+-- whatever else the record has. Any counts are well formed.
+abbrev pub countsHanded : Unit → List (List ℕ)
+countsHanded u = tableOf (u .drive .counts)
+
+-- "Reading it changes no record."
+unfoldable pub transitionsOutcome : Unit → List ℕ → Filled
+transitionsOutcome u buffer = filled u u (transitionBytes (countsHanded u)) buffer (lowest (transitionsRows u buffer))

@@ -1,6 +1,6 @@
-// REQUEST SENSE and the log page: the calls that write into a lent buffer.
+// REQUEST SENSE and the log pages, the calls that write into a lent buffer; and the transition counts by value.
 ghost use mathlib.Core.Path.{_≡_};
-ghost use Rattle.readouts.specs.Readouts.{toldBytes, senseEffect, senseOutcome, logOutcome};
+ghost use Rattle.readouts.specs.Readouts.{toldBytes, senseEffect, senseOutcome, logOutcome, countsHanded, transitionsOutcome};
 ghost use Rattle.unit.specs.Units.{heldOf};
 use conditions::Power;
 use outcomes::Called;
@@ -61,6 +61,30 @@ pub fn log_page(u: Unit, buffer: &mut [u8]) -> Answer
         Verdict::Clear => {
             let records = u.drive.records;
             let page = pages::log_page(records);
+            rows::copy_in(&page, buffer, 0);
+            Answer::Done
+        }
+        Verdict::Given(r) => Answer::Refused(r),
+    }
+}
+
+// How often the unit went into each condition: six rows in falling power, Active first, by timer and by command or use.
+pub fn transition_counts(u: Unit) -> [[u32; 2]; 6]
+    ensures { λ t. ⌜ t ≡ countsHanded u ⌝ }
+{
+    let counts = u.drive.counts;
+    transitions::table_of(counts)
+}
+
+// The Power Condition Transitions log page, into the lent buffer. The record stays the caller's, unchanged.
+pub fn transitions_page(u: Unit, buffer: &mut [u8]) -> Answer
+    ensures { λ a. ⌜ (a ≡ transitionsOutcome u (now (buffer .entry)) .called .answer) × (now (buffer .exit) ≡ transitionsOutcome u (now (buffer .entry)) .buffer) ⌝ }
+{
+    let ok = unit::unit_ok(u);
+    let v = refusals::page_verdict(52, buffer.len(), ok);
+    match v {
+        Verdict::Clear => {
+            let page = transitions::page_of(transition_counts(u));
             rows::copy_in(&page, buffer, 0);
             Answer::Done
         }

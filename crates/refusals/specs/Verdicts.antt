@@ -9,7 +9,7 @@ use Rattle.refusals.specs.declared.Refusal.the-variants.{BadLength, BadH
 
 -- ---- rows that calls share
 
--- 1: "CDB not 6 bytes, sense buffer not 18, log buffer not 512".
+-- 1: "CDB not 6 bytes, sense buffer not 18, log buffer not 512"; document 02, request (i): "a page buffer not 52 bytes".
 abbrev pub badLengthRow : ℕ → ℕ → Row
 badLengthRow size due = not (eqb size due) gives BadLength
 
@@ -21,7 +21,8 @@ badHostRow host = ltb 3 host gives BadHost
 abbrev pub badRecordRow : Bool → Row
 badRecordRow ok = not ok gives BadRecord
 
--- 4: "a command is out (host calls other than the answer; EPC; not ticks, resets or the log page)".
+-- 4: "a command is out (host calls other than the answer; EPC; not ticks, resets or the log page)". Page 1Ah is a log page too: request (i) names 1
+-- and 3 alone.
 abbrev pub commandOutRow : Bool → Row
 commandOutRow out = out gives CommandOut
 

@@ -1,5 +1,5 @@
 -- A list that is written out is a function's values at 0, 1, 2 ..: what it has at a place is the value there.
-use mathlib.Core.Path.{_≡_, refl, ap}
+use mathlib.Core.Path.{_≡_, refl, ap, ap₂}
 use mathlib.Core.List.{List, [], _∷_, _++_}
 use Prim.Native.Nat.{ℕ, zero, suc, _-_, _<_, _≤_}
 use native.Mathlib.Nat.{sub-zero, suc-sub-suc}
@@ -33,3 +33,8 @@ module _ {A : Type 0} where
   own-values [] z (suc n) e = absurd (omega arith)
   own-values (x ∷ l) z zero e = absurd (omega arith)
   own-values (x ∷ l) z (suc n) e = ap (_∷_ x) (own-values l z n (omega arith))
+
+  -- functions that agree below n have the same first n values
+  pub values-same : (f g : ℕ → A) (n : ℕ) → ((i : ℕ) → i < n → f i ≡ g i) → values f n ≡ values g n
+  values-same f g zero same = refl
+  values-same f g (suc n) same = ap₂ _∷_ (same 0 (omega arith)) (values-same (λ i. f (suc i)) (λ i. g (suc i)) n (λ i h. same (suc i) (omega arith)))

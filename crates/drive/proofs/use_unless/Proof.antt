@@ -1,23 +1,29 @@
--- Power and idle count are chosen each by itself, kept or new: together that is the drive kept or used.
-use Rattle.drive.proofs.Kept.{used-kept}
+-- Kept, the idle count stays and with it the drive; else it is 0, and Active is entered.
+use Rattle.drive.specs.Drives.{used}
 use borrow.Author.Needs.{needs}
 use Rattle.drive.proofs.use_unless.Statement.{statement}
 use Rattle.drive.proofs.use_unless.Tie as tie
 
-active-unless-requires : tie.Need-active-unless-requires
-active-unless-requires c κs = search needs
-
 zero-unless-requires : tie.Need-zero-unless-requires
 zero-unless-requires c κs = search needs
 
-move-to-requires : tie.Need-move-to-requires
-move-to-requires c κs = search needs
+with-idle-requires : tie.Need-with-idle-requires
+with-idle-requires c κs = search needs
+
+enter-requires : tie.Need-enter-requires
+enter-requires c κs = search needs
 
 returns : tie.Need-returns
 returns c =
-    let start = c .before .before .before .before .args in
-    rw (c .move-to .ensures, c .before .zero-unless .ensures, c .before .before .active-unless .ensures) (used-kept (start .kept) (start .d))
+    let idle = c .before in
+    rw (idle .with-idle .ensures, idle .before .zero-unless .ensures, c .if1 .taken)
+
+returns-2 : tie.Need-returns-2
+unfolding used
+returns-2 c =
+    let idle = c .before .before in
+    rw (c .enter .ensures, idle .with-idle .ensures, idle .before .zero-unless .ensures, c .before .if1 .left)
 
 pub use-unless-spec : {M : Type 1} → statement M
 use-unless-spec =
-    tie.close (tie.spec active-unless-requires zero-unless-requires move-to-requires returns)
+    tie.close (tie.spec zero-unless-requires with-idle-requires enter-requires returns returns-2)

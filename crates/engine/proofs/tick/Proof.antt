@@ -31,13 +31,16 @@ ticked-power-requires c κs = search needs
 move-to-requires : tie.Need-move-to-requires
 move-to-requires c κs = search needs
 
+with-drive-requires : tie.Need-with-drive-requires
+with-drive-requires c κs = search needs
+
 settle-requires : tie.Need-settle-requires
 settle-requires c κs = search needs
 
 returns : tie.Need-returns
 unfolding tickOutcome
 returns c =
-    let power = c .before .before in
+    let power = c .before .before .before in
     let idle = power .before in
     let still = idle .before .before in
     let v = still .before .before in
@@ -45,7 +48,8 @@ returns c =
     let u = start .args .u in
     c .settle .ensures u (tickEffect u)
     (rw (
-      c .before .move-to .ensures,
+      c .before .with-drive .ensures,
+      c .before .before .move-to .ensures,
       power .ticked-power .ensures,
       idle .ticked-idle .ensures,
       idle .before .largest-of .ensures,
@@ -66,5 +70,6 @@ tick-spec =
     ticked-idle-requires
     ticked-power-requires
     move-to-requires
+    with-drive-requires
     settle-requires
     returns)

@@ -1,11 +1,9 @@
--- A clear verdict says that the buffer has 512 bytes, and the copy fills it; a refusal touches nothing.
-use mathlib.Core.Path.{_≡_, sym, _∙_}
+-- A read of the page whose bytes are those of the five records.
 use native.Mathlib.Omega.{arith}
-use lib.ListN.{length}
 use denote.Ref.{now}
-use Rattle.refusals.proofs.Lowest.{clear-length}
-use Rattle.rows.proofs.Copied.{copied-whole}
+use Rattle.pages.specs.Logs.{logBytes}
 use Rattle.readouts.specs.Readouts.{logOutcome}
+use Rattle.readouts.proofs.Pages.{page-fits, page-fills, page-refuses}
 use borrow.Author.Needs.{needs}
 use Rattle.readouts.proofs.log_page.Statement.{statement}
 use Rattle.readouts.proofs.log_page.Tie as tie
@@ -27,9 +25,10 @@ slice-aggregate-copy-in c = search needs
 
 copy-in-requires : tie.Need-copy-in-requires
 copy-in-requires c κs =
-    let v = c .before .before .before .before .before .before in
-    let clear = sym (v .page-verdict .ensures) ∙ c .before .before .before .before .enum-told .given .1 in
-    let full : length (now (v .before .before .before .args .buffer)) ≡ 512 = clear-length _ _ _ clear in
+    let told = c .before .before .before .before in
+    let v = told .before .before in
+    let start = v .before .before .before .args in
+    let full = page-fits 512 (start .u) (now (start .buffer)) _ _ (v .before .unit-ok .ensures, v .page-verdict .ensures) (told .enum-told .given .1) in
     omega arith
 
 enum-known-v : tie.Need-enum-known-v
@@ -45,19 +44,16 @@ returns c =
     let told = page .before .before in
     let v = told .before .before in
     let start = v .before .before .before .args in
-    let clear = rw (v .before .unit-ok .ensures) at (sym (v .page-verdict .ensures) ∙ told .enum-told .given .1) in
-    let full : length (now (start .buffer)) ≡ 512 = clear-length _ _ _ clear in
-    let whole = copied-whole (now (start .buffer)) (page .log-page .result) (omega (arith, page .log-page .ok)) in (
-      rw clear,
-      rw (clear, c .before .before .copy-in .ensures, whole) (page .log-page .ensures),
-    )
+    page-fills 512 (start .u) (logBytes (start .u .drive .records)) (now (start .buffer)) _ _ (v .before .unit-ok .ensures, v .page-verdict .ensures)
+    (told .enum-told .given .1) (page .log-page .result) _ (page .log-page .ensures) (omega (arith, page .log-page .ok)) (c .before .before .copy-in .ensures)
 
 returns-2 : tie.Need-returns-2
 unfolding logOutcome
 returns-2 c =
     let v = c .before .before .before in
-    let given = rw (v .before .unit-ok .ensures) at (sym (v .page-verdict .ensures) ∙ c .before .v .given .1) in
-    (rw given, rw given)
+    let start = v .before .before .before .args in
+    page-refuses 512 (start .u) (logBytes (start .u .drive .records)) (now (start .buffer)) _ _ (v .before .unit-ok .ensures, v .page-verdict .ensures) _
+    (c .before .v .given .1)
 
 pub log-page-spec : {M : Type 1} → statement M
 log-page-spec =
