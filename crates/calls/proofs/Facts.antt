@@ -1,22 +1,24 @@
 -- The facts hold of the calls' outcomes: each is computed.
 use mathlib.Core.Path.{refl}
+use Rattle.transitions.specs.Counts.{countsAfter, tableOf, countedIn, flatOf}
+use Rattle.transitions.specs.Page.{parameterBytes, transitionBytes}
 use Rattle.drive.specs.Records.{recordWellFormed, recordsWellFormed, driveWellFormed}
-use Rattle.drive.specs.Drives.{timersAsk, ticked, used, made}
+use Rattle.drive.specs.Drives.{timersAsk, ticked, used, poweredOn, made}
 use Rattle.epc.specs.Epc.{aborts, performed}
 use Rattle.unit.specs.Units.{hostsWellFormed, wellFormed}
 use Rattle.refusals.specs.Refusals.{lowest}
-use Rattle.engine.specs.Engine.{epcOutcome, tickOutcome, readOutcome, writeOutcome}
-use Rattle.readouts.specs.Readouts.{senseOutcome}
+use Rattle.engine.specs.Engine.{epcOutcome, tickOutcome, readOutcome, writeOutcome, powerOnOutcome, resetOutcome}
+use Rattle.readouts.specs.Readouts.{senseOutcome, transitionsOutcome}
 use Rattle.senses.specs.Senses.{senseBytes}
 use Rattle.cdb.specs.Cdb.{wanted, isListed}
 use Rattle.exchange.specs.Answered.{answeredFor}
 use Rattle.bridge.specs.Bridge.{startStopOutcome}
 use Rattle.exchange.specs.Exchange.{nextOutcome, answerOutcome}
 use Rattle.calls.specs.Calls.{outcome}
-use Rattle.calls.specs.Facts.{number-1, number-2, number-3, recovery-3, timer-3, largest-numbers, slot-3, number-4, out-read, out-start, out-next, out-sense, out-epc, number-5, none-out, number-6, number-7, number-8, byte-2, modifier-1, number-9, written-9, number-10, by-current, not-by-saved, unsupported-z, verify-sent, verify-bad, start-starts, start-stays, goes-starts, goes-stays, epc-keeps, epc-stays, restores-saved, timer-16, timer-not-on, flag-by-saved, flag-off, idle-counts, idle-stays, fails-told, fails-held, flushes-255, flushes-stay, Facts}
+use Rattle.calls.specs.Facts.{number-1, number-2, number-3, recovery-3, timer-3, largest-numbers, slot-3, number-4, out-read, out-start, out-next, out-sense, out-epc, number-5, none-out, number-6, number-7, number-8, byte-2, modifier-1, number-9, written-9, number-10, by-current, not-by-saved, unsupported-z, verify-sent, verify-bad, start-starts, start-stays, goes-starts, goes-stays, epc-keeps, epc-stays, restores-saved, timer-16, timer-not-on, flag-by-saved, flag-off, idle-counts, idle-stays, fails-told, fails-held, flushes-255, flushes-stay, page-1A, page-51, page-53, page-3, page-out, counts-timer, counts-deepest, counts-use, counts-low, counts-held, counts-cause, counts-flush, counts-bad, counts-fill, counts-full, resets-keep, power-on-counts, power-on-held, Facts}
 
 pub facts : Facts outcome
-unfolding recordWellFormed recordsWellFormed driveWellFormed timersAsk ticked used made aborts performed hostsWellFormed wellFormed lowest epcOutcome tickOutcome readOutcome writeOutcome senseOutcome senseBytes wanted isListed answeredFor startStopOutcome nextOutcome answerOutcome
+unfolding countsAfter tableOf countedIn flatOf parameterBytes transitionBytes recordWellFormed recordsWellFormed driveWellFormed timersAsk ticked used poweredOn made aborts performed hostsWellFormed wellFormed lowest epcOutcome tickOutcome readOutcome writeOutcome powerOnOutcome resetOutcome senseOutcome transitionsOutcome senseBytes wanted isListed answeredFor startStopOutcome nextOutcome answerOutcome
 facts number-1 = refl
 facts number-2 = refl
 facts number-3 = refl
@@ -62,3 +64,21 @@ facts fails-told = refl
 facts fails-held = refl
 facts flushes-255 = refl
 facts flushes-stay = refl
+facts page-1A = refl
+facts page-51 = refl
+facts page-53 = refl
+facts page-3 = refl
+facts page-out = refl
+facts counts-timer = refl
+facts counts-deepest = refl
+facts counts-use = refl
+facts counts-low = (refl, refl, refl)
+facts counts-held = refl
+facts counts-cause = (refl, refl, refl)
+facts counts-flush = refl
+facts counts-bad = refl
+facts counts-fill = (refl, refl, refl)
+facts counts-full = (refl, refl, refl)
+facts resets-keep = (refl, refl, refl)
+facts power-on-counts = refl
+facts power-on-held = (refl, refl, refl)

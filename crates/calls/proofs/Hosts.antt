@@ -7,7 +7,7 @@ use Rattle.unit.specs.Units.{emptySlot, slotOf, noneHeld, heldOf}
 use Rattle.unit.specs.declared.Unit.{Unit}
 use Rattle.unit.specs.declared.Out.the-variants.{NoneOut}
 use Rattle.refusals.specs.declared.Verdict.the-variants.{Clear}
-use Rattle.calls.specs.Calls.{Call, setFeatures, tick, read, write, powerOn, hardReset, softReset, startStop, next, answer, requestSense, logPage, outcome, step}
+use Rattle.calls.specs.Calls.{Call, setFeatures, tick, read, write, powerOn, hardReset, softReset, startStop, next, answer, requestSense, logPage, transitionsPage, outcome, step}
 use Rattle.calls.specs.Described.{Reach, nobody, only, everybody, reachOf, isReset, effect}
 use Rattle.calls.specs.Table.{verdictIn}
 use Rattle.calls.proofs.Numbers.{acceptance-does}
@@ -84,3 +84,4 @@ reset-clears u c reset e = rw (acceptance-does u c e .0) (on c reset)
     on (answer host reply) h = absurd (false≢true h)
     on (requestSense host buffer) h = absurd (false≢true h)
     on (logPage buffer) h = absurd (false≢true h)
+    on (transitionsPage buffer) h = absurd (false≢true h)

@@ -1,26 +1,30 @@
--- What the medium's use, a read of the log page and the resets leave of the condition, the settings, the marks and the idle count, field by field: each
+-- What the medium's use, a read of a log page and the resets leave of the condition, the settings, the marks and the idle count, field by field: each
 -- accepted call has its effect, and the effect is computed. What resets take from the hosts is Hosts · reset-clears.
-use mathlib.Core.Path.{_≡_, refl}
+use mathlib.Core.Path.{_≡_, refl, _∙_}
 use mathlib.Core.Bool.{Bool, true, false}
 use mathlib.Core.List.{List}
 use Prim.Native.Nat.{ℕ, _<_}
 use lib.ListN.{length, getD}
 use borrow.Author.Tests.{eq-eqb}
 use Rattle.rows.proofs.Places.{getD-mapAt}
+use Rattle.transitions.specs.Counts.{countsAfter}
+use Rattle.transitions.specs.Page.{transitionBytes}
 use Rattle.conditions.specs.declared.Power.{Power}
 use Rattle.conditions.specs.declared.Power.the-variants.{Active}
-use Rattle.drive.specs.Drives.{savedRestored, used, poweredOn}
+use Rattle.drive.specs.Drives.{withCounts, savedRestored, used, poweredOn}
+use Rattle.drive.specs.Records.{driveWellFormed}
 use Rattle.drive.specs.declared.Record.{Record}
 use Rattle.refusals.specs.Refusals.{lowest}
 use Rattle.refusals.specs.declared.Answer.the-variants.{Done}
 use Rattle.refusals.specs.declared.Verdict.{Verdict}
 use Rattle.refusals.specs.declared.Verdict.the-variants.{Clear, Given}
-use Rattle.unit.specs.Units.{wellFormed}
+use Rattle.unit.specs.Units.{wellFormed, withDrive}
 use Rattle.unit.specs.declared.Unit.{Unit}
 use Rattle.engine.specs.Engine.{powerOnOutcome, resetOutcome}
-use Rattle.readouts.specs.Readouts.{logOutcome}
-use Rattle.calls.specs.Calls.{read, write, powerOn, hardReset, softReset, logPage, plain, outcome, step}
-use Rattle.calls.specs.Table.{verdictIn}
+use Rattle.readouts.specs.Readouts.{logOutcome, transitionsOutcome, countsHanded}
+use Rattle.calls.specs.Calls.{Call, read, write, powerOn, hardReset, softReset, logPage, transitionsPage, plain, outcome, step}
+use Rattle.calls.specs.Table.{isEpc, verdictIn}
+use Rattle.calls.specs.Described.{effect}
 use Rattle.calls.proofs.Numbers.{acceptance-does, other-keeps}
 
 -- The record has this condition and these marks, and idle count 0.
@@ -44,20 +48,38 @@ module _ (u : Unit) (host : ℕ) where
   unfolding used
   write-leaves e = rw (acceptance-does u (write host) e .0) (record { power = refl; stopped = refl; unsaved = refl; idle = refl }, refl)
 
--- ---- the log page
+-- ---- the log pages
 
--- "Reading the log page changes no record.", accepted or not,
-pub log-still : (u : Unit) (buffer : List ℕ) → step u (logPage buffer) ≡ u
-log-still u buffer = on (verdictIn (outcome u (logPage buffer) .said)) refl
+-- A call that has no effect and is not EPC changes no record, accepted or not.
+still : (u : Unit) (c : Call) → effect u c ≡ u → isEpc c ≡ false → step u c ≡ u
+still u c none other = on (verdictIn (outcome u c .said)) refl
   where
-    on : (v : Verdict) → verdictIn (outcome u (logPage buffer) .said) ≡ v → step u (logPage buffer) ≡ u
-    on Clear e = acceptance-does u (logPage buffer) e .0
-    on (Given r) e = other-keeps u (logPage buffer) r e refl
+    on : (v : Verdict) → verdictIn (outcome u c .said) ≡ v → step u c ≡ u
+    on Clear e = acceptance-does u c e .0 ∙ none
+    on (Given r) e = other-keeps u c r e other
 
--- and it is refused by 1 and 3 alone.
+-- "Reading the log page changes no record.",
+pub log-still : (u : Unit) (buffer : List ℕ) → step u (logPage buffer) ≡ u
+log-still u buffer = still u (logPage buffer) refl refl
+
+-- nor does page 1Ah: "Reading it changes no record."
+pub transitions-still : (u : Unit) (buffer : List ℕ) → step u (transitionsPage buffer) ≡ u
+transitions-still u buffer = still u (transitionsPage buffer) refl refl
+
+-- Each is refused by 1 and 3 alone.
 pub log-read : (u : Unit) (buffer : List ℕ) → wellFormed u ≡ true → length buffer ≡ 512 → outcome u (logPage buffer) .said ≡ plain Done
 unfolding logOutcome lowest
 log-read u buffer fine long = rw (eq-eqb (length buffer) 512 long, fine)
+
+pub transitions-read : (u : Unit) (buffer : List ℕ) → wellFormed u ≡ true → length buffer ≡ 52
+    → (outcome u (transitionsPage buffer) .said ≡ plain Done) × (outcome u (transitionsPage buffer) .buffer ≡ transitionBytes (countsHanded u))
+unfolding transitionsOutcome lowest
+transitions-read u buffer fine long = (rw (eq-eqb (length buffer) 52 long, fine), rw (outcome, eq-eqb (length buffer) 52 long, fine))
+
+-- Any counts are well formed: the test of a record does not look at them.
+pub counts-free : (u : Unit) (counts : List ℕ) → wellFormed (withDrive (withCounts counts (u .drive)) u) ≡ wellFormed u
+unfolding wellFormed driveWellFormed
+counts-free u counts = refl
 
 -- ---- the resets
 
@@ -66,6 +88,15 @@ module _ (u : Unit) (fine : wellFormed u ≡ true) where
   pub reset-keeps : Leaves (u .drive .power) (u .stopped) (u .unsaved) (step u hardReset) × (step u hardReset .drive .records ≡ u .drive .records)
   unfolding resetOutcome lowest
   reset-keeps = rw (step, fine) (record { power = refl; stopped = refl; unsaved = refl; idle = refl }, refl)
+
+  -- Request (i): "Resets keep the counts; a power-on change to Active counts as use."
+  pub reset-counts : step u hardReset .drive .counts ≡ u .drive .counts
+  unfolding resetOutcome lowest
+  reset-counts = rw (step, fine)
+
+  pub power-on-counts : step u powerOn .drive .counts ≡ countsAfter (u .drive .power) Active (u .drive .counts)
+  unfolding powerOnOutcome lowest poweredOn used
+  power-on-counts = rw (step, fine)
 
   pub soft-as-hard : outcome u softReset ≡ outcome u hardReset
   soft-as-hard = refl

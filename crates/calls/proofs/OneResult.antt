@@ -17,6 +17,8 @@ use Rattle.exchange.proofs.next_command.Reads as next-command
 use Rattle.exchange.proofs.answer.Reads as answer
 use Rattle.readouts.proofs.request_sense.Reads as request-sense
 use Rattle.readouts.proofs.log_page.Reads as log-page
+use Rattle.readouts.proofs.transitions_page.Reads as transitions-page
+use Rattle.readouts.proofs.transition_counts.Reads as transition-counts
 use Rattle.refusals.proofs.number.Reads as number
 use Rattle.refusals.proofs.sense_of.Reads as sense-of
 
@@ -88,6 +90,14 @@ one-request-sense = (λ κs a. tt, λ κs a x y s t p q. same (p .0) (q .0), λ 
 
 pub one-log-page : AsksNothing log-page.Asked × OneResult log-page.Post × OneBuffer log-page.Post (λ κs s. now (s .1 .0))
 one-log-page = (λ κs a. tt, λ κs a x y s t p q. same (p .0) (q .0), λ κs a x y s t p q. same (p .1) (q .1))
+
+-- ---- document 02, request (i)
+
+pub one-transitions-page : AsksNothing transitions-page.Asked × OneResult transitions-page.Post × OneBuffer transitions-page.Post (λ κs s. now (s .1 .0))
+one-transitions-page = (λ κs a. tt, λ κs a x y s t p q. same (p .0) (q .0), λ κs a x y s t p q. same (p .1) (q .1))
+
+pub one-transition-counts : AsksNothing transition-counts.Asked × OneResult transition-counts.Post
+one-transition-counts = (λ κs a. tt, λ κs a x y s t. same)
 
 -- ---- "Numbers given back"
 

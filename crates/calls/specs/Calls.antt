@@ -3,7 +3,7 @@ use mathlib.Core.List.{List, [], _∷_}
 use Prim.Native.Nat.{ℕ}
 use Rattle.registers.specs.declared.Registers.{Registers}
 use Rattle.outcomes.specs.declared.Called.{Called}
-use Rattle.readouts.specs.Readouts.{Filled, senseOutcome, logOutcome}
+use Rattle.readouts.specs.Readouts.{Filled, senseOutcome, logOutcome, transitionsOutcome}
 use Rattle.engine.specs.Engine.{epcOutcome, tickOutcome, readOutcome, writeOutcome, powerOnOutcome, resetOutcome}
 use Rattle.refusals.specs.declared.Answer.{Answer}
 use Rattle.unit.specs.declared.Unit.{Unit}
@@ -28,6 +28,7 @@ pub data Call : Type 0 where
   answer : ℕ → Reply → Call
   requestSense : ℕ → List ℕ → Call
   logPage : List ℕ → Call
+  transitionsPage : List ℕ → Call
 
 -- What a call says, in the words of its own answer.
 pub data Said : Type 0 where
@@ -64,6 +65,7 @@ outcome u (answer host reply) =
     record { said = progressed (answerOutcome u host reply .answer); unit = answerOutcome u host reply .unit; buffer = [] }
 outcome u (requestSense host buffer) = intoBuffer (senseOutcome u host buffer)
 outcome u (logPage buffer) = intoBuffer (logOutcome u buffer)
+outcome u (transitionsPage buffer) = intoBuffer (transitionsOutcome u buffer)
 
 -- A step function: what a call on a record comes to. The layer's is `outcome`; a wrong program has another.
 abbrev pub StepFunction : Type 0

@@ -7,16 +7,17 @@ use lib.Dec.{eqb}
 use Rattle.registers.specs.declared.Registers.{Registers}
 use Rattle.refusals.specs.Refusals.{Row}
 use Rattle.pages.specs.Logs.{logBytes}
+use Rattle.transitions.specs.Page.{transitionBytes}
 use Rattle.unit.specs.Units.{slotOf, heldOf}
 use Rattle.unit.specs.declared.Unit.{Unit}
 use Rattle.engine.specs.Engine.{epcRows, epcEffect, tickRows, tickEffect, mediumRows, readEffect, writeEffect, resetRows, powerOnEffect, hardResetEffect}
-use Rattle.readouts.specs.Readouts.{senseRows, toldBytes, senseEffect, logRows}
+use Rattle.readouts.specs.Readouts.{senseRows, toldBytes, senseEffect, logRows, transitionsRows, countsHanded}
 use Rattle.cdb.specs.Cdb.{wanted}
 use Rattle.registers.specs.Commands.{ataCommand}
 use Rattle.requests.specs.declared.Reply.the-variants.{Good}
 use Rattle.bridge.specs.Bridge.{startStopRows, startStopEffect}
 use Rattle.exchange.specs.Exchange.{nextRows, nextEffect, answerRows, answerOn}
-use Rattle.calls.specs.Calls.{Call, setFeatures, tick, read, write, powerOn, hardReset, softReset, startStop, next, answer, requestSense, logPage}
+use Rattle.calls.specs.Calls.{Call, setFeatures, tick, read, write, powerOn, hardReset, softReset, startStop, next, answer, requestSense, logPage, transitionsPage}
 
 -- Whose call it is: nobody's, one host's, everybody's. No slot and no held sense changes but those of the hosts that it is of.
 pub data Reach : Type 0 where
@@ -81,7 +82,7 @@ handing q bytes size d = record {
   writes = d .writes;
 }
 
--- EPC, ticks and the log page name no host; six calls are made by a host; a reset takes from all.
+-- EPC, ticks and the log pages name no host; six calls are made by a host; a reset takes from all.
 abbrev pub describe : Call → Described
 describe (setFeatures q) = handing q [] 0 (bare 0 nobody (λ u. epcRows u q) (epcEffect q))
 describe tick = bare 1 nobody tickRows tickEffect
@@ -100,6 +101,8 @@ describe (requestSense host buffer) =
     (bare 10 (only host) (λ u. senseRows u host buffer) (senseEffect host))
 describe (logPage buffer) =
     lending buffer 512 (λ u. logBytes (u .drive .records)) (bare 11 nobody (λ u. logRows u buffer) (λ u. u))
+describe (transitionsPage buffer) =
+    lending buffer 52 (λ u. transitionBytes (countsHanded u)) (bare 12 nobody (λ u. transitionsRows u buffer) (λ u. u))
 
 -- ---- read off it
 
@@ -132,9 +135,12 @@ isPowerOn c = sameKind c powerOn
 abbrev pub isWrite : Call → Bool
 isWrite c = sameKind c (write 0)
 
--- "a tick or a log page read".
+abbrev pub isTick : Call → Bool
+isTick c = sameKind c tick
+
+-- "a tick or a log page read": page 1Ah is a log page too.
 abbrev pub isTickOrLog : Call → Bool
-isTickOrLog c = sameKind c tick || sameKind c (logPage [])
+isTickOrLog c = isTick c || sameKind c (logPage []) || sameKind c (transitionsPage [])
 
 abbrev pub reachOf : Call → Reach
 reachOf c = describe c .reach

@@ -1,15 +1,15 @@
--- Values of document 01 that stand in one definition each, said again on a call: a table of facts beside the marked examples, under one statement of
+-- Values of document 01, and of document 02, that stand in one definition each, said again on a call: a table of facts beside the marked examples, under one statement of
 -- any step function. Each row is a run from a record, and what its last outcome shows.
 use mathlib.Core.Bool.{true, false}
 use mathlib.Core.List.{List, [], _∷_}
 use mathlib.Core.Path.{_≡_}
 use Prim.Native.Nat.{ℕ}
 use lib.ListN.{replicate}
-use Rattle.conditions.specs.declared.Condition.the-variants.{IdleA, StandbyY, StandbyZ}
+use Rattle.conditions.specs.declared.Condition.the-variants.{IdleA, IdleC, StandbyY, StandbyZ}
 use Rattle.conditions.specs.declared.Cause.the-variants.{Command}
 use Rattle.conditions.specs.declared.Power.{Power}
 use Rattle.conditions.specs.declared.Power.the-variants.{Active, Low}
-use Rattle.drive.specs.Drives.{madeRecord}
+use Rattle.drive.specs.Drives.{withCounts, madeRecord}
 use Rattle.drive.specs.declared.Setting.{Setting}
 use Rattle.drive.specs.declared.Record.{Record}
 use Rattle.drive.specs.declared.Made.{Made}
@@ -19,7 +19,7 @@ use Rattle.refusals.specs.declared.SenseDue.{SenseDue}
 use Rattle.refusals.specs.declared.SenseDue.the-variants.{NoSense, WithSense}
 use Rattle.refusals.specs.declared.Verdict.{Verdict}
 use Rattle.refusals.specs.declared.Verdict.the-variants.{Clear, Given}
-use Rattle.unit.specs.Units.{withPower, withMarks, withSlot, withOut, blank}
+use Rattle.unit.specs.Units.{withDrive, withPower, withMarks, withSlot, withOut, blank}
 use Rattle.unit.specs.declared.Slot.the-variants.{Waiting}
 use Rattle.unit.specs.declared.Out.the-variants.{OutFor}
 use Rattle.unit.specs.declared.Unit.{Unit}
@@ -31,8 +31,8 @@ use Rattle.requests.specs.declared.Stage.{Stage}
 use Rattle.requests.specs.declared.Stage.the-variants.{Straight, Flushing}
 use Rattle.requests.specs.declared.Reply.{Reply}
 use Rattle.requests.specs.declared.Reply.the-variants.{Good, Bad}
-use Rattle.calls.specs.Calls.{Call, tick, read, write, startStop, next, answer, requestSense, plain, progressed, Outcome, StepFunction}
-use Rattle.calls.specs.Examples.{Example, IsShown, off, on, fresh, keeps, quiet, holding, idled, epcCall, cdbCall, done, sends}
+use Rattle.calls.specs.Calls.{Call, tick, read, write, powerOn, hardReset, softReset, startStop, next, answer, requestSense, transitionsPage, plain, progressed, Outcome, StepFunction}
+use Rattle.calls.specs.Examples.{Example, IsShown, off, on, new, fresh, keeps, quiet, holding, idled, epcCall, cdbCall, done, sends}
 use Rattle.calls.specs.Table.{verdictIn}
 
 -- ---- what the rows show
@@ -70,6 +70,22 @@ stoppedIn p = withMarks true true (withPower p fresh)
 
 abbrev pub runningIn : Power → Unit
 runningIn p = withMarks false true (withPower p fresh)
+
+-- The unit in this condition, once it runs.
+abbrev pub onceRunning : Power → Unit → Unit
+onceRunning p u = withMarks false true (withPower p u)
+
+-- The new unit with these transition counts, row by row, each timer then other.
+abbrev pub tallied : List ℕ → Unit
+tallied counts = withDrive (withCounts counts (fresh .drive)) fresh
+
+-- The record has these counts.
+abbrev pub hasCounts : List ℕ → Outcome → Type 0
+hasCounts counts o = o .unit .drive .counts ≡ counts
+
+-- The call was done and the unit is in this condition, with these counts.
+abbrev pub entersWith : Power → List ℕ → Outcome → Type 0
+entersWith p counts o = (o .said ≡ plain Done) × (o .unit .drive .power ≡ p) × hasCounts counts o
 
 -- By the saved and the current setting of Standby_y.
 abbrev pub standbyKept : Setting → Setting → Unit
@@ -113,6 +129,8 @@ pub data Fact : Type 0 where
   verify-sent verify-bad start-starts start-stays goes-starts goes-stays epc-keeps epc-stays : Fact
   restores-saved timer-16 timer-not-on flag-by-saved flag-off idle-counts idle-stays : Fact
   fails-told fails-held flushes-255 flushes-stay : Fact
+  page-1A page-51 page-53 page-3 page-out counts-timer counts-deepest counts-use counts-low counts-held counts-cause counts-flush counts-bad counts-fill counts-full : Fact
+  resets-keep power-on-counts power-on-held : Fact
 
 abbrev pub factOf : Fact → Example
 -- ---- "Numbers given back": each number and its sense, on a call to which its row alone applies.
@@ -169,12 +187,27 @@ factOf unsupported-z = record {
 -- ---- "READ VERIFY 40h, Count 1, LBA 0."
 factOf verify-sent = record { start = fresh; calls = ssu 0 0 1 ∷ next 0 ∷ []; shows = sends 0x40 0 1 0 }
 -- "Start counts as good whatever the verify answered (004), and leaves Active, stopped zero."
-factOf verify-bad = record { start = stoppedIn (Low StandbyZ Command); calls = runWhole 0x01 Bad; shows = endedGood (runningIn Active) }
-factOf start-starts = record { start = stoppedIn (Low StandbyZ Command); calls = runWhole 0x01 Good; shows = endedGood (runningIn Active) }
-factOf start-stays = record { start = runningIn (Low IdleA Command); calls = runWhole 0x01 Good; shows = endedGood (runningIn Active) }
+factOf verify-bad = record {
+  start = stoppedIn (Low StandbyZ Command);
+  calls = runWhole 0x01 Bad;
+  shows = endedGood (onceRunning Active (stoppedIn (Low StandbyZ Command)));
+}
+factOf start-starts = record {
+  start = stoppedIn (Low StandbyZ Command);
+  calls = runWhole 0x01 Good;
+  shows = endedGood (onceRunning Active (stoppedIn (Low StandbyZ Command)));
+}
+factOf start-stays = record {
+  start = runningIn (Low IdleA Command);
+  calls = runWhole 0x01 Good;
+  shows = endedGood (onceRunning Active (runningIn (Low IdleA Command)));
+}
 -- ---- "the stopped mark becomes one for stop, zero for any other": a go to Idle_A with NO_FLUSH, of a stopped unit and of one that runs.
-factOf goes-starts =
-    record { start = stoppedIn (Low StandbyZ Command); calls = runWhole 0x24 Good; shows = endedGood (runningIn (Low IdleA Command)) }
+factOf goes-starts = record {
+  start = stoppedIn (Low StandbyZ Command);
+  calls = runWhole 0x24 Good;
+  shows = endedGood (onceRunning (Low IdleA Command) (stoppedIn (Low StandbyZ Command)));
+}
 factOf goes-stays = record { start = runningIn Active; calls = runWhole 0x24 Good; shows = endedGood (runningIn (Low IdleA Command)) }
 -- ---- "1h go to": "unit enters the condition, cause command; marks stay".
 factOf epc-keeps =
@@ -232,6 +265,88 @@ factOf flushes-stay = record {
   start = waitingFor Stop (Flushing 254) (withMarks false true fresh);
   calls = next 0 ∷ answer 0 Good ∷ write 1 ∷ next 0 ∷ answer 0 Bad ∷ [];
   shows = endedFailed 255;
+}
+-- ---- document 02, request (i). "Parameters, in order: 0001h Active, .. 0008h Standby_z, 0009h Standby_y, each with control byte 03h and length 4, high
+-- byte first; the page header is 1A 00 00 30", "each row's sum, cut at the top".
+factOf page-1A = record {
+  start = tallied (0x01020304 ∷ 0x10203040 ∷ 2 ∷ 3 ∷ 4 ∷ 5 ∷ 6 ∷ 7 ∷ 8 ∷ 9 ∷ 0xFFFFFFFF ∷ 1 ∷ []);
+  calls = transitionsPage (replicate 52 0xA5) ∷ [];
+  shows =
+      λ o. o .buffer
+      ≡ 0x1A ∷ 0x00 ∷ 0x00 ∷ 0x30
+      ∷ 0x00 ∷ 0x01 ∷ 0x03 ∷ 0x04 ∷ 0x11 ∷ 0x22 ∷ 0x33 ∷ 0x44
+      ∷ 0x00 ∷ 0x02 ∷ 0x03 ∷ 0x04 ∷ 0x00 ∷ 0x00 ∷ 0x00 ∷ 0x05
+      ∷ 0x00 ∷ 0x03 ∷ 0x03 ∷ 0x04 ∷ 0x00 ∷ 0x00 ∷ 0x00 ∷ 0x09
+      ∷ 0x00 ∷ 0x04 ∷ 0x03 ∷ 0x04 ∷ 0x00 ∷ 0x00 ∷ 0x00 ∷ 0x0D
+      ∷ 0x00 ∷ 0x08 ∷ 0x03 ∷ 0x04 ∷ 0xFF ∷ 0xFF ∷ 0xFF ∷ 0xFF
+      ∷ 0x00 ∷ 0x09 ∷ 0x03 ∷ 0x04 ∷ 0x00 ∷ 0x00 ∷ 0x00 ∷ 0x11 ∷ [];
+}
+-- "Refusals: only 1, for a page buffer not 52 bytes, and 3." So not 4 with a command out.
+factOf page-51 = record { start = fresh; calls = transitionsPage (replicate 51 0xA5) ∷ []; shows = isRefused 1 NoSense }
+factOf page-53 = record { start = fresh; calls = transitionsPage (replicate 53 0xA5) ∷ []; shows = isRefused 1 NoSense }
+factOf page-3 = record { start = sized 0 0 65536; calls = transitionsPage (replicate 52 0xA5) ∷ []; shows = isRefused 3 NoSense }
+factOf page-out = record { start = outUnit; calls = transitionsPage (replicate 52 0xA5) ∷ []; shows = λ o. o .said ≡ plain Done }
+-- "entries into Active and each of the five conditions", "(timer, command or use)": a timer's entry, one straight to Standby_z, a use after it.
+factOf counts-timer =
+    record { start = new (on 1) off off off off; calls = tick ∷ []; shows = hasCounts (0 ∷ 0 ∷ 1 ∷ 0 ∷ 0 ∷ 0 ∷ 0 ∷ 0 ∷ 0 ∷ 0 ∷ 0 ∷ 0 ∷ []) }
+factOf counts-deepest =
+    record { start = new (on 1) off off off (on 1); calls = tick ∷ []; shows = hasCounts (0 ∷ 0 ∷ 0 ∷ 0 ∷ 0 ∷ 0 ∷ 0 ∷ 0 ∷ 0 ∷ 0 ∷ 1 ∷ 0 ∷ []) }
+factOf counts-use =
+    record { start = new off off off (on 1) off; calls = tick ∷ read 0 ∷ []; shows = hasCounts (0 ∷ 1 ∷ 0 ∷ 0 ∷ 0 ∷ 0 ∷ 0 ∷ 0 ∷ 1 ∷ 0 ∷ 0 ∷ 0 ∷ []) }
+-- From one low condition to another, downwards and upwards.
+factOf counts-low = record {
+  start = fresh;
+  calls = epcCall 0x82 0x1 ∷ epcCall 0x00 0x1 ∷ epcCall 0x81 0x1 ∷ [];
+  shows = entersWith (Low IdleA Command) (0 ∷ 0 ∷ 0 ∷ 1 ∷ 0 ∷ 1 ∷ 0 ∷ 0 ∷ 0 ∷ 0 ∷ 0 ∷ 1 ∷ []);
+}
+-- "going to the condition already held counts nothing": by a command twice, and by a command where a timer was.
+factOf counts-held = record {
+  start = fresh;
+  calls = epcCall 0x82 0x1 ∷ epcCall 0x82 0x1 ∷ [];
+  shows = hasCounts (0 ∷ 0 ∷ 0 ∷ 0 ∷ 0 ∷ 1 ∷ 0 ∷ 0 ∷ 0 ∷ 0 ∷ 0 ∷ 0 ∷ []);
+}
+factOf counts-cause = record {
+  start = new off off (on 1) off off;
+  calls = tick ∷ epcCall 0x83 0x1 ∷ [];
+  shows = entersWith (Low IdleC Command) (0 ∷ 0 ∷ 0 ∷ 0 ∷ 0 ∷ 0 ∷ 1 ∷ 0 ∷ 0 ∷ 0 ∷ 0 ∷ 0 ∷ []);
+}
+-- After a go to Idle_A, a flushing one enters Active by its flush, then Idle_A again; a bad flush enters Active and no more.
+factOf counts-flush = record {
+  start = fresh;
+  calls = epcCall 0x81 0x1 ∷ ssu 0 0 0x20 ∷ next 0 ∷ answer 0 Good ∷ next 0 ∷ answer 0 Good ∷ [];
+  shows = hasCounts (0 ∷ 1 ∷ 0 ∷ 2 ∷ 0 ∷ 0 ∷ 0 ∷ 0 ∷ 0 ∷ 0 ∷ 0 ∷ 0 ∷ []);
+}
+factOf counts-bad = record {
+  start = fresh;
+  calls = epcCall 0x81 0x1 ∷ ssu 0 0 0x20 ∷ next 0 ∷ answer 0 Bad ∷ [];
+  shows = hasCounts (0 ∷ 1 ∷ 0 ∷ 1 ∷ 0 ∷ 0 ∷ 0 ∷ 0 ∷ 0 ∷ 0 ∷ 0 ∷ 0 ∷ []);
+}
+-- "32 bits, staying at the top once there".
+factOf counts-fill = record {
+  start = tallied (0 ∷ 0 ∷ 0 ∷ 0xFFFFFFFE ∷ 0 ∷ 0 ∷ 0 ∷ 0 ∷ 0 ∷ 0 ∷ 0 ∷ 0 ∷ []);
+  calls = epcCall 0x81 0x1 ∷ [];
+  shows = entersWith (Low IdleA Command) (0 ∷ 0 ∷ 0 ∷ 0xFFFFFFFF ∷ 0 ∷ 0 ∷ 0 ∷ 0 ∷ 0 ∷ 0 ∷ 0 ∷ 0 ∷ []);
+}
+factOf counts-full = record {
+  start = tallied (0 ∷ 0 ∷ 0 ∷ 0xFFFFFFFF ∷ 0 ∷ 0 ∷ 0 ∷ 0 ∷ 0 ∷ 0 ∷ 0 ∷ 0 ∷ []);
+  calls = epcCall 0x81 0x1 ∷ [];
+  shows = entersWith (Low IdleA Command) (0 ∷ 0 ∷ 0 ∷ 0xFFFFFFFF ∷ 0 ∷ 0 ∷ 0 ∷ 0 ∷ 0 ∷ 0 ∷ 0 ∷ 0 ∷ []);
+}
+-- "Resets keep the counts; a power-on change to Active counts as use."
+factOf resets-keep = record {
+  start = tallied (0 ∷ 0 ∷ 0 ∷ 7 ∷ 0 ∷ 0 ∷ 0 ∷ 0 ∷ 0 ∷ 0 ∷ 0 ∷ 0 ∷ []);
+  calls = hardReset ∷ softReset ∷ [];
+  shows = entersWith Active (0 ∷ 0 ∷ 0 ∷ 7 ∷ 0 ∷ 0 ∷ 0 ∷ 0 ∷ 0 ∷ 0 ∷ 0 ∷ 0 ∷ []);
+}
+factOf power-on-counts = record {
+  start = fresh;
+  calls = epcCall 0x00 0x1 ∷ powerOn ∷ [];
+  shows = hasCounts (0 ∷ 1 ∷ 0 ∷ 0 ∷ 0 ∷ 0 ∷ 0 ∷ 0 ∷ 0 ∷ 0 ∷ 0 ∷ 1 ∷ []);
+}
+factOf power-on-held = record {
+  start = tallied (0 ∷ 4 ∷ 0 ∷ 0 ∷ 0 ∷ 0 ∷ 0 ∷ 0 ∷ 0 ∷ 0 ∷ 0 ∷ 0 ∷ []);
+  calls = powerOn ∷ [];
+  shows = entersWith Active (0 ∷ 4 ∷ 0 ∷ 0 ∷ 0 ∷ 0 ∷ 0 ∷ 0 ∷ 0 ∷ 0 ∷ 0 ∷ 0 ∷ []);
 }
 
 -- ---- the statement

@@ -31,7 +31,7 @@ isEpc c = sameKind c (setFeatures (ataCommand 0 0 0 0))
 abbrev pub isStartStop : Call → Bool
 isStartStop c = sameKind c (startStop 0 [])
 
--- "(host calls other than the answer; EPC; not ticks, resets or the log page)".
+-- "(host calls other than the answer; EPC; not ticks, resets or the log page)"; nor page 1Ah.
 abbrev pub waitsForDrive : Call → Bool
 waitsForDrive c = ofHost (λ host. true) (reachOf c) && not (sameKind c (answer 0 Good)) || isEpc c
 
@@ -41,9 +41,9 @@ usesMedium c = sameKind c (read 0) || sameKind c (write 0)
 -- ---- the table: when the row of each number applies to a call on a record
 
 abbrev pub appliesTo : Unit → Call → Refusal → Bool
--- 1: "CDB not 6 bytes, sense buffer not 18, log buffer not 512".
+-- 1: "CDB not 6 bytes, sense buffer not 18, log buffer not 512"; request (i): "a page buffer not 52 bytes".
 appliesTo u c BadLength = not (eqb (length (describe c .bytes)) (describe c .size))
--- 2: "host above 3". EPC, ticks, resets and the log page name no host.
+-- 2: "host above 3". EPC, ticks, resets and the log pages name no host.
 appliesTo u c BadHost = ofHost (λ host. ltb 3 host) (reachOf c)
 -- 3: "record not well formed".
 appliesTo u c BadRecord = not (wellFormed u)

@@ -22,7 +22,7 @@ use Rattle.operations.specs.declared.Next.the-variants.{Send}
 use Rattle.operations.specs.declared.Progress.the-variants.{More, Ended}
 use Rattle.requests.specs.declared.Reply.the-variants.{Good, Bad}
 use Rattle.operations.specs.declared.Status.the-variants.{NoStatus, GoodStatus, CheckCondition}
-use Rattle.calls.specs.Calls.{Call, tick, read, write, powerOn, startStop, next, answer, Said, plain, accepted, sent, progressed, Event, hardReset, softReset, requestSense, logPage, outcome, run, history}
+use Rattle.calls.specs.Calls.{Call, tick, read, write, powerOn, startStop, next, answer, Said, plain, accepted, sent, progressed, Event, hardReset, softReset, requestSense, logPage, transitionsPage, outcome, run, history}
 use Rattle.calls.specs.Examples.{off, on, new, keeps, quiet, epcCall}
 use Rattle.runs.specs.Serial.{Compared, serial, nothingWaits, resetsAtRest, compared, gather, refusedIn, otherIn}
 use Rattle.runs.specs.Deeds.{Deed, does, wasAborted, wasRefused, deeds}
@@ -210,17 +210,19 @@ stood = refl
 -- Every kind of call that is no part of an operation, accepted, stands as it stood.
 abbrev others : List Call
 others =
-    hardReset ∷ softReset ∷ powerOn ∷ epcCall 0x82 0x012C22 ∷ read 0 ∷ write 1 ∷ tick ∷ requestSense 2 (replicate 18 0) ∷ logPage (replicate 512 0) ∷ []
+    hardReset ∷ softReset ∷ powerOn ∷ epcCall 0x82 0x012C22 ∷ read 0 ∷ write 1 ∷ tick ∷ requestSense 2 (replicate 18 0)
+    ∷ logPage (replicate 512 0) ∷ transitionsPage (replicate 52 0) ∷ []
 
 pub others-stand : serial (history noon others) ≡ others
 unfolding computed
 others-stand = refl
 
--- Of these, all but the tick and the log page set the idle count to 0.
+-- Of these, all but the tick and the log pages set the idle count to 0.
 abbrev keepsIdle : Deed → List Deed
 keepsIdle d = cond (restartsIdle d) [] (d ∷ [])
 
-pub others-restart : gather keepsIdle (deeds (history noon others)) ≡ does tick ∷ does (logPage (replicate 512 0)) ∷ []
+pub others-restart : gather keepsIdle (deeds (history noon others))
+    ≡ does tick ∷ does (logPage (replicate 512 0)) ∷ does (transitionsPage (replicate 52 0)) ∷ []
 unfolding computed
 others-restart = refl
 

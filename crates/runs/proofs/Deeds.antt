@@ -18,7 +18,7 @@ use Rattle.unit.specs.Units.{emptySlot, slotOf, heldOf, isOut, withSlot, rested
 use Rattle.refusals.specs.Refusals.{lowest, isSame}
 use Rattle.refusals.proofs.Ranks.{is-same}
 use Rattle.engine.specs.Engine.{epcRows, mediumRows, epcEffect, tickEffect, readEffect, writeEffect, powerOnEffect, hardResetEffect}
-use Rattle.readouts.specs.Readouts.{senseRows, logRows, senseEffect}
+use Rattle.readouts.specs.Readouts.{senseRows, logRows, transitionsRows, senseEffect}
 use Rattle.refusals.specs.declared.Refusal.{Refusal}
 use Rattle.refusals.specs.declared.Refusal.the-variants.{CommandOut, Aborted}
 use Rattle.refusals.specs.declared.Verdict.{Verdict}
@@ -41,7 +41,7 @@ use Rattle.operations.specs.declared.Next.the-variants.{Send, NotSent}
 use Rattle.operations.specs.declared.Progress.the-variants.{More, Ended, NotTaken}
 use Rattle.operations.specs.declared.Report.{Report}
 use Rattle.exchange.specs.declared.Replied.{Replied}
-use Rattle.calls.specs.Calls.{Call, setFeatures, tick, read, write, powerOn, hardReset, softReset, startStop, next, answer, requestSense, logPage, Said, plain, accepted, sent, progressed, outcome, step}
+use Rattle.calls.specs.Calls.{Call, setFeatures, tick, read, write, powerOn, hardReset, softReset, startStop, next, answer, requestSense, logPage, transitionsPage, Said, plain, accepted, sent, progressed, outcome, step}
 use Rattle.calls.specs.Described.{isReset, isPowerOn, isWrite, isTickOrLog, isSenseOf, ownRows, effect}
 use Rattle.calls.specs.Table.{verdictIn, appliesTo}
 use Rattle.unit.proofs.Hosts.{other-held}
@@ -89,6 +89,7 @@ pub record Others (P : Deed → Unit → Type 0) (u : Unit) : Type 0 where
   pub tells : (host : ℕ) (buffer : List ℕ) → lowest (senseRows u host buffer) ≡ Clear
       → P (does (requestSense host buffer)) (senseEffect host u)
   pub logs : (buffer : List ℕ) → lowest (logRows u buffer) ≡ Clear → P (does (logPage buffer)) u
+  pub logs-transitions : (buffer : List ℕ) → lowest (transitionsRows u buffer) ≡ Clear → P (does (transitionsPage buffer)) u
 
 -- The deed of a call on a record.
 abbrev pub deedAt : Unit → Call → Deed
@@ -116,6 +117,7 @@ turn (next host) = asks host
 turn (answer host reply) = answers host reply
 turn (requestSense host buffer) = apart (requestSense host buffer) (λ said. refl)
 turn (logPage buffer) = apart (logPage buffer) (λ said. refl)
+turn (transitionsPage buffer) = apart (transitionsPage buffer) (λ said. refl)
 
 -- ---- a refused call
 
@@ -218,6 +220,7 @@ module _ (P : Deed → Unit → Type 0) (u : Unit) (cases : Cases P u) (others :
   by-deed (answer host reply) = answered host reply
   by-deed (requestSense host buffer) = other (requestSense host buffer) (others .tells host buffer) never
   by-deed (logPage buffer) = other (logPage buffer) (others .logs buffer) never
+  by-deed (transitionsPage buffer) = other (transitionsPage buffer) (others .logs-transitions buffer) never
 
 -- ---- the calls that are no part of an operation, in one row
 
@@ -265,6 +268,8 @@ module _ (P : Deed → Unit → Type 0) (u : Unit) (done : (c : Call) (v : Unit)
         row (requestSense host buffer) _ (passes (refl, refl, refl) refl refl refl)
         (λ k r other. other-held host k (λ same. eqb-false host k other (sym same)) (u .held) Nothing) (λ i. refl);
     logs = λ buffer clear. row (logPage buffer) _ (passes (refl, refl, refl) refl refl refl) (λ k r s. refl) (λ i. absurd (true≢false i));
+    logs-transitions = λ buffer clear.
+        row (transitionsPage buffer) _ (passes (refl, refl, refl) refl refl refl) (λ k r s. refl) (λ i. absurd (true≢false i));
   }
     where
       used-idle : used (u .drive) .idle .0 ≡ 0

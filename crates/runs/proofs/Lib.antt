@@ -7,6 +7,7 @@ pub mod Same
 pub mod Operations
 pub mod Pending
 pub mod Demand3
+pub mod Entries
 pub mod Since
 pub mod Safe
 pub mod FlushCount
@@ -21,3 +22,4 @@ pub mod Afternoon
 pub mod Outside
 pub mod WrongPrograms
 pub mod WrongSteps
+pub mod WrongCounts

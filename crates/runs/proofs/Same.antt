@@ -7,7 +7,7 @@ use mathlib.Core.List.{List, [], _∷_}
 use mathlib.Core.Logic.{_⊎_, inl, inr}
 use Prim.Native.Nat.{ℕ}
 use lib.Dec.{eqb}
-use lib.ListN.{set}
+use lib.ListN.{length, set}
 use Rattle.rows.specs.Rows.{mapAt}
 use Rattle.drive.specs.Drives.{restarted, ticked, used, savedRestored}
 use Rattle.drive.specs.declared.Drive.{Drive}
@@ -20,8 +20,9 @@ use Rattle.epc.proofs.Effects.{records-after}
 use Rattle.epc.proofs.Fields.{power-after, count-after}
 use Rattle.unit.specs.Units.{largestOf, slotOf, isOut, wellFormed, withDrive, rested}
 use Rattle.refusals.specs.Refusals.{_gives_, lowest}
+use Rattle.refusals.specs.Verdicts.{rowsOfPage}
 use Rattle.engine.specs.Engine.{epcRows, tickRows, mediumRows, resetRows, epcEffect, tickEffect, readEffect, writeEffect, powerOnEffect, hardResetEffect}
-use Rattle.readouts.specs.Readouts.{senseRows, logRows, senseEffect}
+use Rattle.readouts.specs.Readouts.{senseRows, logRows, transitionsRows, senseEffect}
 use Rattle.refusals.specs.declared.Refusal.the-variants.{Aborted, BadHost, BadLength, IsStopped}
 use Rattle.refusals.specs.declared.Verdict.the-variants.{Clear, Given}
 use Rattle.requests.specs.declared.Stage.the-variants.{Flushing}
@@ -31,7 +32,7 @@ use Rattle.unit.specs.declared.Slot.the-variants.{Waiting}
 use Rattle.unit.specs.declared.HostSlot.{HostSlot}
 use Rattle.unit.specs.declared.Out.the-variants.{NoneOut}
 use Rattle.unit.specs.declared.Unit.{Unit}
-use Rattle.calls.specs.Calls.{Call, setFeatures, tick, read, write, powerOn, hardReset, softReset, requestSense, logPage, Said, outcome}
+use Rattle.calls.specs.Calls.{Call, setFeatures, tick, read, write, powerOn, hardReset, softReset, requestSense, logPage, transitionsPage, Said, outcome}
 use Rattle.calls.specs.Table.{verdictIn}
 use Rattle.calls.specs.Described.{ownRows, effect, isReset}
 use Rattle.refusals.proofs.Lowest.{not-applies, row-passes, row-gives, clear-when}
@@ -320,11 +321,16 @@ module _ (past : List Deed) (u v : Unit) (fine : wellFormed u ≡ true) (same : 
         at-rest = λ quiet. (same .at-rest quiet .0, refl);
       })
 
-  log-clear : (buffer : List ℕ) → lowest (logRows u buffer) ≡ Clear → lowest (logRows v buffer) ≡ Clear
-  log-clear buffer clear = clear-when (logRows v buffer) (rw (not-applies (logRows u buffer) BadLength clear, same .fine))
+  -- A log page of this many bytes.
+  page-clear : (due size : ℕ) → lowest (rowsOfPage due size (wellFormed u)) ≡ Clear → lowest (rowsOfPage due size (wellFormed v)) ≡ Clear
+  page-clear due size clear =
+      clear-when (rowsOfPage due size (wellFormed v)) (rw (not-applies (rowsOfPage due size (wellFormed u)) BadLength clear, same .fine))
 
   pub logs-on : (buffer : List ℕ) → lowest (logRows u buffer) ≡ Clear → Stands (does (logPage buffer)) u
-  logs-on buffer clear r = itself (logPage buffer) u v (λ said. refl) (log-clear buffer clear) refl (λ ok. same)
+  logs-on buffer clear r = itself (logPage buffer) u v (λ said. refl) (page-clear 512 (length buffer) clear) refl (λ ok. same)
+
+  pub transitions-on : (buffer : List ℕ) → lowest (transitionsRows u buffer) ≡ Clear → Stands (does (transitionsPage buffer)) u
+  transitions-on buffer clear r = itself (transitionsPage buffer) u v (λ said. refl) (page-clear 52 (length buffer) clear) refl (λ ok. same)
 
   -- ---- an operation under way: nothing stands in the serial run, and something waits in the real one
 

@@ -1,6 +1,7 @@
 -- Wrong programs, as step functions: those of document 01's "Holding the wording to account" and "Slips seen in other boards", in its words, and others.
 -- Each does as the layer does but for its own slip.
 use mathlib.Core.Bool.{Bool, true, false, not, _&&_, _||_, cond}
+use mathlib.Core.List.{List}
 use Prim.Native.Nat.{ℕ, _+_, _-_}
 use lib.Dec.{eqb}
 use lib.ListN.{replicate}
@@ -8,11 +9,11 @@ use Rattle.rows.specs.Rows.{mapAt}
 use Rattle.conditions.specs.Conditions.{depth}
 use Rattle.conditions.specs.declared.Power.{Power}
 use Rattle.conditions.specs.declared.Power.the-variants.{Active}
-use Rattle.drive.specs.Drives.{withSettings, timersAsk, fallen}
+use Rattle.drive.specs.Drives.{driveOf, withSettings, withIdle, entered, timersAsk, fallen}
 use Rattle.drive.specs.declared.Record.{Record}
 use Rattle.drive.specs.declared.Drive.{Drive}
 use Rattle.registers.specs.declared.Registers.{Registers}
-use Rattle.unit.specs.Units.{emptySlot, noneHeld, slotOf, isOut, unitOf, withMarks, withOut, withPower}
+use Rattle.unit.specs.Units.{emptySlot, noneHeld, slotOf, isOut, unitOf, withDrive, withMarks, withOut}
 use Rattle.refusals.specs.declared.Refusal.{Refusal}
 use Rattle.refusals.specs.declared.Refusal.the-variants.{BadRecord, OwnWaiting}
 use Rattle.refusals.specs.declared.SenseDue.{SenseDue}
@@ -46,6 +47,10 @@ saying said o = record { said = said; unit = o .unit; buffer = o .buffer }
 abbrev pub leaving : Unit → Outcome → Outcome
 leaving u o = record { said = o .said; unit = u; buffer = o .buffer }
 
+-- The drive in this power, with these counts: nothing is entered.
+abbrev poweredAs : Power → List ℕ → Drive → Drive
+poweredAs p counts d = driveOf (d .records) p (d .idle .0) counts
+
 -- The record with this unsaved mark.
 abbrev pub marked : Bool → Unit → Unit
 marked unsaved u = withMarks (u .stopped) unsaved u
@@ -77,14 +82,15 @@ clearsMark u c = cond (afterFlush u c && isClear (verdictIn (outcome u c .said))
 -- ---- ticks
 
 -- A tick that counts: it is not refused, and no command is out.
-abbrev pub counts : Unit → Call → Bool
-counts u c = sameKind c tick && isClear (verdictIn (outcome u c .said)) && not (isOut (u .out))
+abbrev pub tickCounts : Unit → Call → Bool
+tickCounts u c = sameKind c tick && isClear (verdictIn (outcome u c .said)) && not (isOut (u .out))
 
 -- What such a tick enters is asked of another function, by the drive before it and the count that it leaves.
 abbrev pub entering : (Drive → ℕ → Power) → StepFunction
 entering asked u c =
     let o = outcome u c in
-    cond (counts u c) (leaving (withPower (asked (u .drive) (o .unit .drive .idle .0)) (o .unit)) o) o
+    let n = o .unit .drive .idle .0 in
+    cond (tickCounts u c) (leaving (withDrive (entered (asked (u .drive) n) (withIdle n (u .drive))) u) o) o
 
 -- Each timer runs out a tick early, or a tick late.
 abbrev pub early : StepFunction
@@ -129,7 +135,7 @@ flushesAnyway u c = saying (handedFor 0xE0 (registersOf Flush) (outcome u c .sai
 
 -- One whose ticks start the unit.
 abbrev pub tickStarts : StepFunction
-tickStarts u c = cond (counts u c) (leaving (withMarks false (u .unsaved) (outcome u c .unit)) (outcome u c)) (outcome u c)
+tickStarts u c = cond (tickCounts u c) (leaving (withMarks false (u .unsaved) (outcome u c .unit)) (outcome u c)) (outcome u c)
 
 -- One that takes reads and writes of a stopped unit; the mark stays.
 abbrev pub worksStopped : StepFunction
@@ -162,7 +168,7 @@ onFailure change u c = cond (isFailure (outcome u c .said)) (leaving (change u (
 
 -- Against "Bad flush: Active" and "Bad last command: Active": the power condition stays.
 abbrev pub keepsPower : StepFunction
-keepsPower = onFailure (λ before u. withPower (before .drive .power) u)
+keepsPower = onFailure (λ before u. withDrive (poweredAs (before .drive .power) (before .drive .counts) (u .drive)) u)
 
 -- The command that is out is a flush.
 abbrev pub flushDue : Bool → Slot → Bool
@@ -301,5 +307,5 @@ abbrev pub alwaysActive : StepFunction
 alwaysActive u c = record {
   said = outcome u c .said;
   unit = outcome u c .unit;
-  buffer = outcome (withPower Active u) c .buffer;
+  buffer = outcome (withDrive (poweredAs Active (u .drive .counts) (u .drive)) u) c .buffer;
 }

@@ -54,7 +54,7 @@ abbrev stops : ℕ → Call
 stops host = startStop host (0x1B ∷ 0 ∷ 0 ∷ 0 ∷ 0 ∷ 0 ∷ [])
 
 -- A new unit after a stop that went well: parked, with nothing unsaved and nothing held.
-abbrev parked : Compared
+abbrev pub parked : Compared
 parked = record {
   settings = replicate 5 quiet;
   power = Low StandbyZ Command;
@@ -65,7 +65,7 @@ parked = record {
 }
 
 -- Demand 3 on one run from the new unit: what it takes for granted of the run holds, and the real and the serial run both leave the parked unit.
-abbrev Agrees : StepFunction → List Call → Type 0
+abbrev pub Agrees : StepFunction → List Call → Type 0
 Agrees by cs =
     (resetsAtRest by fresh cs ≡ true) × (nothingWaits (runBy by fresh cs) ≡ true)
     × (compared (runBy by fresh cs) ≡ parked)

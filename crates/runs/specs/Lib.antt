@@ -6,3 +6,4 @@ pub mod FlushCount
 pub mod Commands
 pub mod Reports
 pub mod Idle
+pub mod Entries

@@ -57,7 +57,8 @@ resetsAtRest by u (c ∷ cs) = (not (isReset c) || nothingWaits u) && resetsAtRe
 -- ---- what is compared
 
 -- "the settings, power condition and its cause, idle count, stopped mark, unsaved mark and held deferred senses": the settings in the five records,
--- with what the maker said of each condition. "What hosts are told halfway is not compared." Nor are slots and what is out: none waits in either run.
+-- with what the maker said of each condition. "What hosts are told halfway is not compared." Nor are slots and what is out: none waits in either
+-- run. Nor are the transition counts: "Demand 3 does not compare them." (document 02, request (i); a run in which they differ: WrongCounts · counts-differ).
 pub record Compared : Type 0 where
   pub settings : List Record
   pub power : Power
