@@ -4,7 +4,7 @@ use mathlib.Core.List.{List, [], _∷_}
 use Prim.Native.Nat.{ℕ, zero, suc}
 use lib.Dec.{ltb}
 use lib.ListN.{replicate}
-use Rattle.readouts.specs.Readouts.{Filled, senseOutcome, logOutcome}
+use Rattle.readouts.specs.Readouts.{Filled, senseOutcome, logOutcome, transitionsOutcome}
 use Rattle.engine.specs.Engine.{epcOutcome, tickOutcome, readOutcome, writeOutcome, powerOnOutcome, resetOutcome}
 use Rattle.refusals.specs.declared.Answer.{Answer}
 use Rattle.refusals.specs.declared.Answer.the-variants.{Done, Refused}
@@ -19,11 +19,13 @@ use Rattle.digits.specs.Numerals.{bytesText}
 use Rattle.digits.specs.Sheets.{lineText}
 use Rattle.digits.specs.Texts.{cut}
 use Rattle.asked.specs.declared.CallLine.{CallLine}
-use Rattle.asked.specs.declared.CallLine.the-variants.{Plain, StartStop, Next, Answer as AnswerCall, Sense, Log}
+use Rattle.asked.specs.declared.CallLine.the-variants.{Plain, StartStop, Next, Answer as AnswerCall, Sense, Log, Transitions as TransitionsCall}
 use Rattle.asked.specs.declared.PlainCall.{PlainCall}
 use Rattle.asked.specs.declared.PlainCall.the-variants.{Tick, Epc, Read, Write, PowerOn, HardReset, SoftReset}
 use Rattle.commands.specs.Commands.{cdbIn}
 use Rattle.words.specs.Lines.{lineIn}
+use Rattle.answers.specs.declared.Page.{Page}
+use Rattle.answers.specs.declared.Page.the-variants.{Conditions, Transitions}
 use Rattle.phrases.specs.Phrases.{calledText, acceptedText, sentText, progressText, beforeBytes}
 
 -- The unit after a call, and what is printed, piece by piece.
@@ -60,7 +62,7 @@ plainOutcome u PowerOn = powerOnOutcome u
 plainOutcome u HardReset = resetOutcome u
 plainOutcome u SoftReset = resetOutcome u
 
--- `sense H LEN`, `log LEN`: "into LEN bytes, all A5 before". A line gives no LEN above 400; the code's buffer has that many.
+-- `sense H LEN`, `log LEN`, `trans LEN`: "into LEN bytes, all A5 before". A line gives no LEN above 400; the code's buffer has that many.
 abbrev pub bufferLength : ℕ → ℕ
 bufferLength len = cond (ltb len 0x400) len 0x400
 
@@ -72,6 +74,11 @@ filledPieces a buffer = cut (beforeBytes a) ∷ bytesText buffer ∷ lineText []
 
 abbrev pub filledResponse : Filled → CallResponse
 filledResponse f = record { unit = f .called .unit; pieces = filledPieces (f .called .answer) (f .buffer) }
+
+-- `log LEN`: "log page"; `trans LEN`: "page 1Ah .. answered like `log`".
+abbrev pub pageOutcome : Page → Unit → List ℕ → Filled
+pageOutcome Conditions u buffer = logOutcome u buffer
+pageOutcome Transitions u buffer = transitionsOutcome u buffer
 
 abbrev pub startStopResponse : StartStopped → CallResponse
 startStopResponse s = oneLine (s .unit) (acceptedText (s .answer))
@@ -89,4 +96,5 @@ callResponse u (StartStop host) text = startStopResponse (startStopOutcome u hos
 callResponse u (Next host) text = nextResponse (nextOutcome u host)
 callResponse u (AnswerCall host reply) text = answerResponse (answerOutcome u host reply)
 callResponse u (Sense host len) text = filledResponse (senseOutcome u host (unfilled len))
-callResponse u (Log len) text = filledResponse (logOutcome u (unfilled len))
+callResponse u (Log len) text = filledResponse (pageOutcome Conditions u (unfilled len))
+callResponse u (TransitionsCall len) text = filledResponse (pageOutcome Transitions u (unfilled len))

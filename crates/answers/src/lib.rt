@@ -1,7 +1,7 @@
 // Each call made over the face, and the line that it prints.
 ghost use mathlib.Core.Path.{_≡_};
 ghost use Prim.Native.Nat.{_≤_};
-ghost use Rattle.readouts.specs.Readouts.{senseOutcome, logOutcome};
+ghost use Rattle.readouts.specs.Readouts.{senseOutcome};
 ghost use Rattle.bridge.specs.Bridge.{startStopOutcome};
 ghost use Rattle.exchange.specs.Exchange.{nextOutcome, answerOutcome};
 ghost use Rattle.words.specs.Lines.{lineIn};
@@ -10,7 +10,7 @@ ghost use Rattle.digits.specs.Texts.{said, cut};
 ghost use Rattle.commands.specs.Commands.{cdbIn};
 ghost use Rattle.phrases.specs.Phrases.{calledText, acceptedText, sentText, progressText};
 ghost use Rattle.answers.specs.Answers;
-ghost use Rattle.answers.specs.Answers.{plainOutcome, bufferLength, unfilled, filledPieces, filledResponse, callResponse};
+ghost use Rattle.answers.specs.Answers.{plainOutcome, bufferLength, unfilled, filledPieces, filledResponse, pageOutcome, callResponse};
 use asked::CallLine;
 use asked::PlainCall;
 use digits::Text;
@@ -29,6 +29,12 @@ pub struct Told {
 pub struct Printed {
     pub unit: Unit,
     pub at: usize,
+}
+
+// The log pages.
+pub enum Page {
+    Conditions,
+    Transitions,
 }
 
 fn is_done(a: Answer) -> bool
@@ -142,7 +148,7 @@ fn put_filled(a: Answer, buffer: &[u8], out: &mut [u8], at: usize) -> usize
     digits::put_line(digits::empty(), out, end)
 }
 
-// The most that `sense` and `log` lend, as it is before the call.
+// The most that `sense`, `log` and `trans` lend, as it is before the call.
 fn unwritten() -> [u8; 1024]
     ensures { λ r. ⌜ r ≡ unfilled 1024 ⌝ }
 {
@@ -170,12 +176,22 @@ fn sense(u: Unit, host: u32, len: u32, out: &mut [u8], at: usize) -> Printed
     }
 }
 
-fn log(u: Unit, len: u32, out: &mut [u8], at: usize) -> Printed
-    ensures { λ r. ⌜ (r .unit ≡ filledResponse (logOutcome u (unfilled len)) .unit) × (sheet (now (out .exit)) (r .at) ≡ wroteAll (sheet (now (out .entry)) at) (filledResponse (logOutcome u (unfilled len)) .pieces)) ⌝ }
+fn read_page(u: Unit, page: Page, buffer: &mut [u8]) -> Answer
+    ensures { λ a. ⌜ (a ≡ pageOutcome page u (now (buffer .entry)) .called .answer) × (now (buffer .exit) ≡ pageOutcome page u (now (buffer .entry)) .buffer) ⌝ }
+{
+    match page {
+        Page::Conditions => power::log_page(u, buffer),
+        Page::Transitions => power::transitions_page(u, buffer),
+    }
+}
+
+// Reading a page changes no record.
+fn log(u: Unit, page: Page, len: u32, out: &mut [u8], at: usize) -> Printed
+    ensures { λ r. ⌜ (r .unit ≡ filledResponse (pageOutcome page u (unfilled len)) .unit) × (sheet (now (out .exit)) (r .at) ≡ wroteAll (sheet (now (out .entry)) at) (filledResponse (pageOutcome page u (unfilled len)) .pieces)) ⌝ }
 {
     let mut buffer = unwritten();
     let n = buffer_len(len);
-    let a = power::log_page(u, &mut buffer[..n]);
+    let a = read_page(u, page, &mut buffer[..n]);
     Printed {
         unit: u,
         at: put_filled(a, &buffer[..n], out, at),
@@ -192,6 +208,7 @@ pub fn make(u: Unit, call: CallLine, text: &[u8], out: &mut [u8], at: usize) -> 
         CallLine::Next(host) => put_told(next(u, host), out, at),
         CallLine::Answer(host, reply) => put_told(answer(u, host, reply), out, at),
         CallLine::Sense(host, len) => sense(u, host, len, out, at),
-        CallLine::Log(len) => log(u, len, out, at),
+        CallLine::Log(len) => log(u, Page::Conditions, len, out, at),
+        CallLine::Transitions(len) => log(u, Page::Transitions, len, out, at),
     }
 }

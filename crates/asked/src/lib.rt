@@ -31,6 +31,7 @@ pub enum CallLine {
     Answer(u32, Reply),
     Sense(u32, u32),
     Log(u32),
+    Transitions(u32),
 }
 
 // What the line `state` sets.
@@ -41,6 +42,22 @@ pub struct State {
     pub unsaved: bool,
 }
 
+// How often a condition was entered: by a timer, and otherwise.
+pub struct Entries {
+    pub timer: u32,
+    pub other: u32,
+}
+
+// What the line `counts` sets: a field a row of the table of counts, since an enum holds no array.
+pub struct Tally {
+    pub active: Entries,
+    pub a: Entries,
+    pub b: Entries,
+    pub c: Entries,
+    pub y: Entries,
+    pub z: Entries,
+}
+
 // What one line of a set-up block sets.
 pub enum Part {
     Settings(Condition, Record),
@@ -48,6 +65,7 @@ pub enum Part {
     HasSlot(u32, Slot),
     HasHeld(u32, Held),
     HasOut(Out),
+    HasCounts(Tally),
 }
 
 pub enum Line {

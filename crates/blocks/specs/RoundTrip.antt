@@ -8,6 +8,7 @@ use Rattle.asked.specs.Records.{partsOf}
 -- A unit whose arrays have their lengths, as every unit of the code has.
 pub record Whole (u : Unit) : Type 0 where
   pub records : length (u .drive .records) ≡ 5
+  pub counts : length (u .drive .counts) ≡ 12
   pub slots : length (u .slots) ≡ 4
   pub held : length (u .held) ≡ 4
 

@@ -1,13 +1,14 @@
 // A set-up block: what its lines set, and the session of a script that it stands in.
 ghost use mathlib.Core.Path.{_≡_};
 ghost use Rattle.asked.specs.declared.Line.the-variants.{Sets};
-ghost use Rattle.asked.specs.declared.Part.the-variants.{Settings, Stands};
-ghost use Rattle.blocks.specs.Parts.{setPart};
+ghost use Rattle.asked.specs.declared.Part.the-variants.{Settings, Stands, HasCounts};
+ghost use Rattle.blocks.specs.Parts.{countsOf, setPart};
 ghost use Rattle.blocks.specs.Sessions;
 ghost use Rattle.blocks.specs.Sessions.{startSession, opened, drafted, closed};
 use asked::Line;
 use asked::Part;
 use asked::State;
+use asked::Tally;
 use conditions::Condition;
 use drive::Drive;
 use drive::Record;
@@ -35,14 +36,43 @@ fn set_state(u: Unit, s: State) -> Unit
     ensures { λ v. ⌜ v ≡ setPart (Stands s) u ⌝ }
 {
     let records = u.drive.records;
+    let counts = u.drive.counts;
     let power = s.power;
     let idle = s.idle;
     let d = Drive {
         records,
         power,
         idle,
+        counts,
     };
     unit::with_marks(unit::with_drive(u, d), s.stopped, s.unsaved)
+}
+
+// The table of counts as the record keeps it.
+fn counts_of(t: Tally) -> [u32; 12]
+    ensures { λ r. ⌜ r ≡ countsOf t ⌝ }
+{
+    [
+        t.active.timer,
+        t.active.other,
+        t.a.timer,
+        t.a.other,
+        t.b.timer,
+        t.b.other,
+        t.c.timer,
+        t.c.other,
+        t.y.timer,
+        t.y.other,
+        t.z.timer,
+        t.z.other,
+    ]
+}
+
+fn set_counts(u: Unit, t: Tally) -> Unit
+    ensures { λ v. ⌜ v ≡ setPart (HasCounts t) u ⌝ }
+{
+    let d = u.drive;
+    unit::with_drive(u, drive::with_counts(d, counts_of(t)))
 }
 
 fn set_part(u: Unit, p: Part) -> Unit
@@ -54,6 +84,7 @@ fn set_part(u: Unit, p: Part) -> Unit
         Part::HasSlot(host, slot) => unit::with_slot(u, host, slot),
         Part::HasHeld(host, held) => unit::with_held(u, host, held),
         Part::HasOut(out) => unit::with_out(u, out),
+        Part::HasCounts(tally) => set_counts(u, tally),
     }
 }
 

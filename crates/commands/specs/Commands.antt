@@ -4,7 +4,7 @@ use mathlib.Core.List.{List, [], _∷_}
 use Prim.Native.Nat.{ℕ}
 use lib.Dec.{eqb, leb, ltb}
 use lib.ListN.{drop, length}
-use Rattle.asked.specs.declared.CallLine.the-variants.{Plain, StartStop, Next, Answer, Sense, Log}
+use Rattle.asked.specs.declared.CallLine.the-variants.{Plain, StartStop, Next, Answer, Sense, Log, Transitions}
 use Rattle.asked.specs.declared.Line.{Line}
 use Rattle.asked.specs.declared.Line.the-variants.{Asks}
 use Rattle.asked.specs.declared.PlainCall.{PlainCall}
@@ -96,11 +96,18 @@ answerLine line =
     offered (hasWords 3 line && hostIn 1 line .good && ltb (nameIn replyNames 2 line) 2)
     (Asks (Answer (hostIn 1 line .value) (replyFrom (nameIn replyNames 2 line))))
 
--- `sense H LEN` and `log LEN`.
+-- `sense H LEN`.
 unfoldable pub senseLine : List ℕ → Line
 senseLine line =
     offered (hasWords 3 line && hostIn 1 line .good && lengthIn 2 line .good)
     (Asks (Sense (hostIn 1 line .value) (lengthIn 2 line .value)))
 
+-- `log LEN`, `trans LEN`.
+abbrev pub onlyLength : List ℕ → Number
+onlyLength line = record { good = hasWords 2 line && lengthIn 1 line .good; value = lengthIn 1 line .value }
+
 unfoldable pub logLine : List ℕ → Line
-logLine line = offered (hasWords 2 line && lengthIn 1 line .good) (Asks (Log (lengthIn 1 line .value)))
+logLine line = offered (onlyLength line .good) (Asks (Log (onlyLength line .value)))
+
+unfoldable pub transitionsLine : List ℕ → Line
+transitionsLine line = offered (onlyLength line .good) (Asks (Transitions (onlyLength line .value)))

@@ -4,7 +4,7 @@ ghost use Prim.Native.Nat.{_≤_};
 ghost use lib.ListN.{take};
 ghost use Rattle.words.specs.Lines.{lineIn};
 ghost use Rattle.commands.specs.Commands;
-ghost use Rattle.commands.specs.Commands.{onlyHost, tickLine, epcLine, readLine, writeLine, resetLine, startStopLine, nextLine, replyFrom, answerLine, senseLine, logLine, cdbIn, isCdb};
+ghost use Rattle.commands.specs.Commands.{onlyHost, onlyLength, tickLine, epcLine, readLine, writeLine, resetLine, startStopLine, nextLine, replyFrom, answerLine, senseLine, logLine, transitionsLine, cdbIn, isCdb};
 use asked::CallLine;
 use asked::Line;
 use asked::PlainCall;
@@ -142,12 +142,30 @@ pub fn sense_line(line: &[u8]) -> Line
     )
 }
 
-pub fn log_line(line: &[u8]) -> Line
-    ensures { λ r. ⌜ r ≡ logLine (now (line .entry)) ⌝ }
+// The length of a command that takes a length and no more.
+fn only_length(line: &[u8]) -> Number
+    ensures { λ r. ⌜ r ≡ onlyLength (now (line .entry)) ⌝ }
 {
     let n = words::word_count(line);
     let len = words::number_at(line, 1, 0x400);
-    asked::offered((n == 2) & len.good, Line::Asks(CallLine::Log(len.value)))
+    Number {
+        good: (n == 2) & len.good,
+        value: len.value,
+    }
+}
+
+pub fn log_line(line: &[u8]) -> Line
+    ensures { λ r. ⌜ r ≡ logLine (now (line .entry)) ⌝ }
+{
+    let len = only_length(line);
+    asked::offered(len.good, Line::Asks(CallLine::Log(len.value)))
+}
+
+pub fn transitions_line(line: &[u8]) -> Line
+    ensures { λ r. ⌜ r ≡ transitionsLine (now (line .entry)) ⌝ }
+{
+    let len = only_length(line);
+    asked::offered(len.good, Line::Asks(CallLine::Transitions(len.value)))
 }
 
 // The bytes from word 2 on; none if one of them is no byte or there are more than 40.

@@ -1,11 +1,11 @@
--- The format page, "Set-up": the lines `c` and `state` of a block. Assumes nothing.
+-- The format page, "Set-up": the lines `c`, `state` and `counts` of a block. Assumes nothing.
 use mathlib.Core.Bool.{Bool, Bool·beq, cond, _&&_}
 use mathlib.Core.List.{List, [], _∷_}
 use Prim.Native.Nat.{ℕ, _+_, _-_}
 use lib.Dec.{eqb, ltb}
 use Rattle.asked.specs.declared.Line.{Line}
 use Rattle.asked.specs.declared.Line.the-variants.{Sets}
-use Rattle.asked.specs.declared.Part.the-variants.{Settings, Stands}
+use Rattle.asked.specs.declared.Part.the-variants.{Settings, Stands, HasCounts}
 use Rattle.asked.specs.declared.State.{State}
 use Rattle.conditions.specs.Conditions.{conditionAt}
 use Rattle.conditions.specs.declared.Cause.{Cause}
@@ -15,8 +15,10 @@ use Rattle.conditions.specs.declared.Power.the-variants.{Active, Low}
 use Rattle.words.specs.Codes.{codes}
 use Rattle.asked.specs.Offers.{offered}
 use Rattle.words.specs.Fields.{hasWords, nameIn, wideIn, flagIn, conditionLetters}
+use Rattle.parts.specs.declared.ReadEntries.{ReadEntries}
 use Rattle.parts.specs.declared.ReadRecord.{ReadRecord}
 use Rattle.parts.specs.declared.ReadSetting.{ReadSetting}
+use Rattle.parts.specs.declared.ReadTally.{ReadTally}
 
 -- ---- c X SUP SAV CHG REC DE DT SE ST CE CT
 
@@ -86,3 +88,35 @@ stateLine line =
     && isPower (nameIn conditionNames 1 line) (nameIn causeNames 2 line)
     && wideIn 3 line .good && flagIn 4 line .good && flagIn 5 line .good)
     (Sets (Stands (stateIn line)))
+
+-- ---- counts and twelve numbers
+
+-- "each timer then other".
+abbrev pub entriesIn : ℕ → List ℕ → ReadEntries
+entriesIn k line = record {
+  good = wideIn k line .good && wideIn (k + 1) line .good;
+  value = record { timer = wideIn k line .value; other = wideIn (k + 1) line .value };
+}
+
+-- "rows in power order".
+abbrev pub tallyIn : List ℕ → ReadTally
+tallyIn line = record {
+  good =
+      entriesIn 1 line .good
+      && entriesIn 3 line .good
+      && entriesIn 5 line .good
+      && entriesIn 7 line .good
+      && entriesIn 9 line .good
+      && entriesIn 11 line .good;
+  value = record {
+    active = entriesIn 1 line .value;
+    a = entriesIn 3 line .value;
+    b = entriesIn 5 line .value;
+    c = entriesIn 7 line .value;
+    y = entriesIn 9 line .value;
+    z = entriesIn 11 line .value;
+  };
+}
+
+unfoldable pub countsLine : List ℕ → Line
+countsLine line = offered (hasWords 13 line && tallyIn line .good) (Sets (HasCounts (tallyIn line .value)))

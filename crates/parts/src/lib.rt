@@ -1,10 +1,12 @@
-// The lines of a set-up block that are the drive's, read: `c` and `state`, each as the part of a record that it sets.
+// The lines of a set-up block that are the drive's, read: `c`, `state` and `counts`, each as the part of a record that it sets.
 ghost use mathlib.Core.Path.{_≡_};
 ghost use Prim.Native.Nat.{_≤_};
-ghost use Rattle.parts.specs.Parts.{settingIn, recordIn, causeFrom, powerFrom, isPower, conditionLine, stateLine};
+ghost use Rattle.parts.specs.Parts.{settingIn, recordIn, causeFrom, powerFrom, isPower, conditionLine, stateLine, entriesIn, tallyIn, countsLine};
+use asked::Entries;
 use asked::Line;
 use asked::Part;
 use asked::State;
+use asked::Tally;
 use conditions::Cause;
 use conditions::Power;
 use drive::Millis;
@@ -21,6 +23,16 @@ pub struct ReadSetting {
 pub struct ReadRecord {
     pub good: bool,
     pub value: Record,
+}
+
+pub struct ReadEntries {
+    pub good: bool,
+    pub value: Entries,
+}
+
+pub struct ReadTally {
+    pub good: bool,
+    pub value: Tally,
 }
 
 // An enabled flag and a timer.
@@ -121,4 +133,58 @@ pub fn state_line(line: &[u8]) -> Line
     };
     let good = (n == 6) & is_power(condition, cause) & idle.good & stopped.good & unsaved.good;
     asked::offered(good, Line::Sets(Part::Stands(state)))
+}
+
+// A row of the table of counts.
+fn entries_at(line: &[u8], k: usize) -> ReadEntries
+    requires { ⌜ k ≤ 11 ⌝ }
+    ensures { λ r. ⌜ r ≡ entriesIn k (now (line .entry)) ⌝ }
+{
+    let timer = words::number_at(line, k, 0xFFFFFFFF);
+    let other = words::number_at(line, k + 1, 0xFFFFFFFF);
+    ReadEntries {
+        good: timer.good & other.good,
+        value: Entries {
+            timer: timer.value,
+            other: other.value,
+        },
+    }
+}
+
+fn tally_in(line: &[u8]) -> ReadTally
+    ensures { λ r. ⌜ r ≡ tallyIn (now (line .entry)) ⌝ }
+{
+    let first = entries_at(line, 1);
+    let second = entries_at(line, 3);
+    let third = entries_at(line, 5);
+    let fourth = entries_at(line, 7);
+    let fifth = entries_at(line, 9);
+    let sixth = entries_at(line, 11);
+    let good = first.good & second.good & third.good & fourth.good & fifth.good & sixth.good;
+    let active = first.value;
+    let a = second.value;
+    let b = third.value;
+    let c = fourth.value;
+    let y = fifth.value;
+    let z = sixth.value;
+    ReadTally {
+        good,
+        value: Tally {
+            active,
+            a,
+            b,
+            c,
+            y,
+            z,
+        },
+    }
+}
+
+pub fn counts_line(line: &[u8]) -> Line
+    ensures { λ r. ⌜ r ≡ countsLine (now (line .entry)) ⌝ }
+{
+    let n = words::word_count(line);
+    let read = tally_in(line);
+    let tally = read.value;
+    asked::offered((n == 13) & read.good, Line::Sets(Part::HasCounts(tally)))
 }

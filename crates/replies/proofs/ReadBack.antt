@@ -22,11 +22,12 @@ use Rattle.words.specs.Lines.{beforeReturn}
 use Rattle.words.specs.Numbers.{areDigits, valueAfter, isNumber, wordNumber, wordFlag}
 use Rattle.words.specs.Words.{pieces, nonempty, words, wordAt, placeIn}
 use Rattle.digits.specs.Numerals.{numeral, pairs}
+use Rattle.asked.specs.declared.Entries.{Entries}
 use Rattle.asked.specs.declared.Line.the-variants.{Sets}
 use Rattle.asked.specs.declared.Part.{Part}
-use Rattle.asked.specs.declared.Part.the-variants.{Settings, Stands, HasSlot, HasHeld, HasOut}
+use Rattle.asked.specs.declared.Part.the-variants.{Settings, Stands, HasSlot, HasHeld, HasOut, HasCounts}
 use Rattle.script.specs.Lines.{lineOfWords, lineOfText}
-use Rattle.parts.specs.Parts.{conditionLine, stateLine}
+use Rattle.parts.specs.Parts.{conditionLine, stateLine, countsLine}
 use Rattle.hosts.specs.Hosts.{slotLine, heldLine, outLine}
 use Rattle.spelling.specs.Spelling.{partText}
 
@@ -52,6 +53,9 @@ stands power idle stopped unsaved =
 abbrev waits : ℕ → Target → Bool → Stage → Part
 waits host target immed stage = HasSlot host (Waiting (record { target = target; immed = immed; stage = stage }))
 
+abbrev entries : ℕ → ℕ → Entries
+entries timer other = record { timer = timer; other = other }
+
 abbrev samples : List Part
 samples =
     Settings StandbyY largest
@@ -67,9 +71,17 @@ samples =
     ∷ HasHeld 3 (Holds CommandSequence)
     ∷ HasOut NoneOut
     ∷ HasOut (OutFor 0xFF)
+    ∷ HasCounts (record {
+      active = entries 0 1;
+      a = entries 2 0x10;
+      b = entries 0xABC 0xFFFFFFFF;
+      c = entries 0xFFFFFFFF 0;
+      y = entries 0xFFFFFFFE 9;
+      z = entries 0xA 0x80000000;
+    })
     ∷ []
 
 pub read-back : map (λ p. lineOfText (partText p)) samples ≡ map Sets samples
 unfolding numeral pairs partText beforeReturn pieces nonempty words wordAt placeIn areDigits valueAfter isNumber wordNumber wordFlag
-    lineOfText lineOfWords conditionLine stateLine slotLine heldLine outLine
+    lineOfText lineOfWords conditionLine stateLine slotLine heldLine outLine countsLine
 read-back = refl

@@ -1,5 +1,5 @@
--- No answer has more than 4,096 bytes. A line is cut at 128 of them: `show` has 17 lines and the table 16. The bytes that `sense` and `log`
--- print are at most 1,024, with two digits each, between two texts that are cut too.
+-- No answer has more than 4,096 bytes. A line is cut at 128 of them: `show` has 18 lines and the table 23. The bytes that `sense`, `log` and
+-- `trans` print are at most 1,024, with two digits each, between two texts that are cut too.
 use mathlib.Core.Path.{_≡_, refl}
 use mathlib.Core.Bool.{Bool, true, false, cond, not}
 use mathlib.Core.List.{List, [], _∷_, _++_, map}
@@ -15,7 +15,9 @@ use Rattle.drive.proofs.WellFormed.{drive-five}
 use Rattle.pages.specs.Logs.{logBytes}
 use Rattle.senses.specs.Senses.{senseBytes}
 use Rattle.pages.proofs.Page.{page-512}
-use Rattle.readouts.specs.Readouts.{Filled, filled, toldBytes, senseEffect, senseRows, senseOutcome, logRows, logOutcome}
+use Rattle.transitions.specs.Page.{transitionBytes}
+use Rattle.transitions.proofs.Page.{page-52}
+use Rattle.readouts.specs.Readouts.{Filled, filled, toldBytes, senseEffect, senseRows, senseOutcome, logRows, logOutcome, countsHanded, transitionsRows, transitionsOutcome}
 use Rattle.refusals.specs.Refusals.{_gives_, lowest}
 use Rattle.refusals.specs.declared.Refusal.the-variants.{BadLength, BadRecord}
 use Rattle.unit.specs.Units.{heldOf, wellFormed}
@@ -34,7 +36,7 @@ use Rattle.digits.specs.Sheets.{joined, lineText}
 use Rattle.digits.specs.Texts.{cut}
 use Rattle.digits.proofs.Digits.{pairs-length}
 use Rattle.asked.specs.declared.CallLine.{CallLine}
-use Rattle.asked.specs.declared.CallLine.the-variants.{Plain, StartStop, Next, Answer as AnswerCall, Sense, Log}
+use Rattle.asked.specs.declared.CallLine.the-variants.{Plain, StartStop, Next, Answer as AnswerCall, Sense, Log, Transitions}
 use Rattle.asked.specs.declared.Line.{Line}
 use Rattle.asked.specs.declared.Line.the-variants.{Blank, Wrong, Asks, Sets, Opens, Closes, Shows, Tables}
 use Rattle.asked.specs.declared.Part.{Part}
@@ -81,7 +83,7 @@ line-fits t = omega (arith, line-more t [] (omega arith))
 shown-fits : (u : Unit) → Fits (shown u)
 unfolding shown
 shown-fits u =
-    let seventeen : length (shown u) ≡ 17 = refl in
+    let eighteen : length (shown u) ≡ 18 = refl in
     let last = lineText (codes "end") ∷ [] in
     let parts = parts-small (partsOf u) last (line-more (codes "end") [] (omega arith)) in
     omega (arith, line-more (codes "unit") (partLines (partsOf u) ++ last) parts)
@@ -89,10 +91,10 @@ shown-fits u =
 table-fits : (u : Unit) → Fits (tableLines u)
 unfolding tableLines texts
 table-fits u =
-    let sixteen : length (map lineText (texts u)) ≡ 16 = refl in
+    let lines : length (map lineText (texts u)) ≡ 23 = refl in
     omega (arith, lines-small (texts u))
 
--- ---- the bytes that `sense` and `log` print
+-- ---- the bytes that `sense`, `log` and `trans` print
 
 lent-within : (len : ℕ) → length (unfilled len) ≤ 0x400
 lent-within len = rw (length-replicate {A = ℕ} (bufferLength len) 0xA5) (on (ltb len 0x400) refl)
@@ -140,6 +142,12 @@ log-within u buffer h =
     let five : given ≡ Clear → length (u .drive .records) ≡ 5 = λ e. five-records u (log-clear u buffer e) in
     filled-within u u page buffer given (λ e. omega (arith, page-512 (u .drive .records) (five e))) h
 
+transitions-within : (u : Unit) (buffer : List ℕ) → length buffer ≤ 0x400 → length (transitionsOutcome u buffer .buffer) ≤ 0x400
+unfolding transitionsOutcome
+transitions-within u buffer h =
+    filled-within u u (transitionBytes (countsHanded u)) buffer (lowest (transitionsRows u buffer))
+    (λ e. omega (arith, page-52 (countsHanded u))) h
+
 bytes-within : (bs : List ℕ) → length bs ≤ 0x400 → length (bytesText bs) ≤ 2048
 bytes-within [] h = omega arith
 bytes-within (b ∷ bs) h = omega (arith, pairs-length (b ∷ bs))
@@ -166,6 +174,7 @@ call-fits u (Next host) text = line-fits (sentText (nextOutcome u host .answer))
 call-fits u (AnswerCall host reply) text = line-fits (progressText (answerOutcome u host reply .answer))
 call-fits u (Sense host len) text = reply-fits (senseOutcome u host (unfilled len)) (sense-within u host (unfilled len) (lent-within len))
 call-fits u (Log len) text = reply-fits (logOutcome u (unfilled len)) (log-within u (unfilled len) (lent-within len))
+call-fits u (Transitions len) text = reply-fits (transitionsOutcome u (unfilled len)) (transitions-within u (unfilled len) (lent-within len))
 
 pub ok-fits : (good : Bool) → Fits (okOrError good)
 ok-fits good = line-fits (cond good (codes "ok") (codes "error"))

@@ -11,8 +11,8 @@ use Rattle.words.specs.Codes.{codes}
 use Rattle.words.specs.Words.{same, wordAt}
 use Rattle.words.specs.Fields.{hasWords}
 use Rattle.asked.specs.Offers.{offered}
-use Rattle.commands.specs.Commands.{tickLine, epcLine, readLine, writeLine, resetLine, startStopLine, nextLine, answerLine, senseLine, logLine}
-use Rattle.parts.specs.Parts.{conditionLine, stateLine}
+use Rattle.commands.specs.Commands.{tickLine, epcLine, readLine, writeLine, resetLine, startStopLine, nextLine, answerLine, senseLine, logLine, transitionsLine}
+use Rattle.parts.specs.Parts.{conditionLine, stateLine, countsLine}
 use Rattle.hosts.specs.Hosts.{slotLine, heldLine, outLine}
 use Rattle.words.specs.Lines.{lineIn}
 
@@ -37,6 +37,7 @@ callEntries =
     ∷ ("answer" reads answerLine)
     ∷ ("sense" reads senseLine)
     ∷ ("log" reads logLine)
+    ∷ ("trans" reads transitionsLine)
     ∷ []
 
 abbrev pub partEntries : List Entry
@@ -46,6 +47,7 @@ partEntries =
     ∷ ("slot" reads slotLine)
     ∷ ("held" reads heldLine)
     ∷ ("out" reads outLine)
+    ∷ ("counts" reads countsLine)
     ∷ []
 
 -- A word that stands alone.

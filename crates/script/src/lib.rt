@@ -4,7 +4,7 @@ ghost use mathlib.Core.Path.{_≡_};
 ghost use Rattle.script.specs.Lines.{callEntries, partEntries, loneEntries, readerAt, readBy, lineOfWords, lineOfText};
 use asked::Line;
 
-// The names of calls are at places 0 to 9.
+// The names of calls are at places 0 to 10.
 fn call_at(line: &[u8], place: usize) -> Line
     ensures { λ r. ⌜ r ≡ readerAt callEntries place (now (line .entry)) ⌝ }
 {
@@ -19,6 +19,7 @@ fn call_at(line: &[u8], place: usize) -> Line
         7 => commands::answer_line(line),
         8 => commands::sense_line(line),
         9 => commands::log_line(line),
+        10 => commands::transitions_line(line),
         _ => Line::Wrong,
     }
 }
@@ -32,6 +33,7 @@ fn part_at(line: &[u8], place: usize) -> Line
         2 => hosts::slot_line(line),
         3 => hosts::held_line(line),
         4 => hosts::out_line(line),
+        5 => parts::counts_line(line),
         _ => Line::Wrong,
     }
 }
@@ -61,8 +63,8 @@ fn read_lone(line: &[u8]) -> Line
 fn read_in_block(line: &[u8]) -> Line
     ensures { λ r. ⌜ r ≡ readBy (partEntries ++ loneEntries) (now (line .entry)) ⌝ }
 {
-    let place = words::name_at(line, 0, b"c state slot held out");
-    if place < 5 {
+    let place = words::name_at(line, 0, b"c state slot held out counts");
+    if place < 6 {
         part_at(line, place)
     } else {
         read_lone(line)
@@ -80,9 +82,9 @@ fn read_words(line: &[u8]) -> Line
     let place = words::name_at(
         line,
         0,
-        b"tick epc read write reset ssu next answer sense log",
+        b"tick epc read write reset ssu next answer sense log trans",
     );
-    if place < 10 {
+    if place < 11 {
         call_at(line, place)
     } else {
         read_in_block(line)

@@ -24,11 +24,13 @@ use Rattle.unit.specs.declared.Unit.{Unit}
 use Rattle.words.specs.Codes.{codes}
 use Rattle.digits.specs.Numerals.{pairs}
 use Rattle.digits.proofs.Lengths.{Within, whole, looser, _then_, either, hex, ended, Uncut, none, _and_}
+use Rattle.asked.specs.declared.Entries.{Entries}
 use Rattle.asked.specs.declared.Part.{Part}
-use Rattle.asked.specs.declared.Part.the-variants.{Settings, Stands, HasSlot, HasHeld, HasOut}
+use Rattle.asked.specs.declared.Part.the-variants.{Settings, Stands, HasSlot, HasHeld, HasOut, HasCounts}
+use Rattle.asked.specs.declared.Tally.{Tally}
 use Rattle.asked.specs.Records.{partsOf}
 use Rattle.digits.specs.Pieces.{flagWord, numberWord}
-use Rattle.spelling.specs.Spelling.{letterWord, settingWords, recordWords, powerWords, targetWord, stageWords, slotWords, heldWords, outWords, partText, shown}
+use Rattle.spelling.specs.Spelling.{letterWord, settingWords, recordWords, powerWords, targetWord, stageWords, slotWords, heldWords, outWords, entriesWords, tallyWords, partText, shown}
 
 -- ---- the pieces
 
@@ -76,17 +78,24 @@ out : (o : Out) → Within (outWords o) 9
 out NoneOut = looser (omega arith) (whole (codes " -"))
 out (OutFor host) = number host
 
--- ---- the line: the longest is a condition's
+entries : (e : Entries) → Within (entriesWords e) 18
+entries e = number (e .timer) then number (e .other)
 
-part : (p : Part) → Within (partText p) 51
+tally : (t : Tally) → Within (tallyWords t) 108
+tally t = entries (t .active) then entries (t .a) then entries (t .b) then entries (t .c) then entries (t .y) then entries (t .z)
+
+-- ---- the line: the longest is that of the counts
+
+part : (p : Part) → Within (partText p) 114
 unfolding partText
-part (Settings c r) = whole (codes "c") then letter c then settings r
+part (Settings c r) = looser (omega arith) (whole (codes "c") then letter c then settings r)
 part (Stands s) =
     looser (omega arith)
     (whole (codes "state") then (power (s .power) then number (s .idle .0) then flag (s .stopped) then flag (s .unsaved)))
 part (HasSlot host s) = looser (omega arith) (whole (codes "slot") then number host then slot s)
 part (HasHeld host h) = looser (omega arith) (whole (codes "held") then number host then held h)
 part (HasOut o) = looser (omega arith) (whole (codes "out") then out o)
+part (HasCounts t) = whole (codes "counts") then tally t
 
 -- ---- the block
 

@@ -26,9 +26,11 @@ use Rattle.requests.specs.declared.Target.{Target}
 use Rattle.requests.specs.declared.Target.the-variants.{Stop, Start, GoTo}
 use Rattle.unit.specs.declared.Unit.{Unit}
 use Rattle.words.specs.Codes.{codes}
+use Rattle.asked.specs.declared.Entries.{Entries}
 use Rattle.asked.specs.declared.Part.{Part}
-use Rattle.asked.specs.declared.Part.the-variants.{Settings, Stands, HasSlot, HasHeld, HasOut}
+use Rattle.asked.specs.declared.Part.the-variants.{Settings, Stands, HasSlot, HasHeld, HasOut, HasCounts}
 use Rattle.asked.specs.declared.State.{State}
+use Rattle.asked.specs.declared.Tally.{Tally}
 use Rattle.asked.specs.Records.{partsOf}
 use Rattle.digits.specs.Sheets.{lineText}
 use Rattle.digits.specs.Pieces.{senseText, flagWord, numberWord}
@@ -97,12 +99,22 @@ abbrev pub outWords : Out → List ℕ
 outWords NoneOut = codes " -"
 outWords (OutFor host) = numberWord host
 
+-- counts and twelve numbers, "rows in power order, each timer then other"
+abbrev pub entriesWords : Entries → List ℕ
+entriesWords e = numberWord (e .timer) ++ numberWord (e .other)
+
+abbrev pub tallyWords : Tally → List ℕ
+tallyWords t =
+    entriesWords (t .active) ++ entriesWords (t .a) ++ entriesWords (t .b)
+    ++ entriesWords (t .c) ++ entriesWords (t .y) ++ entriesWords (t .z)
+
 unfoldable pub partText : Part → List ℕ
 partText (Settings c r) = codes "c" ++ letterWord c ++ recordWords r
 partText (Stands s) = codes "state" ++ stateWords s
 partText (HasSlot host s) = codes "slot" ++ numberWord host ++ slotWords s
 partText (HasHeld host h) = codes "held" ++ numberWord host ++ heldWords h
 partText (HasOut out) = codes "out" ++ outWords out
+partText (HasCounts t) = codes "counts" ++ tallyWords t
 
 abbrev pub partLines : List Part → List (List ℕ)
 partLines [] = []

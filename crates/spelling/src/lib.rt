@@ -6,12 +6,14 @@ ghost use lib.ListN.{getD};
 ghost use Rattle.digits.specs.Sheets.{sheet, wroteAll};
 ghost use Rattle.digits.specs.Texts.{said, cut};
 ghost use Rattle.asked.specs.Records;
-ghost use Rattle.asked.specs.Records.{settingsOf, stateOf, partsOf};
+ghost use Rattle.asked.specs.Records.{settingsOf, stateOf, entriesAt, tallyOf, countsPart, partsOf};
 ghost use Rattle.asked.specs.declared.Part.the-variants.{HasOut};
 ghost use Rattle.spelling.specs.Spelling;
-ghost use Rattle.spelling.specs.Spelling.{letterWord, settingWords, recordWords, causeWord, powerWords, stateWords, targetWord, stageWords, requestWords, slotWords, spacedText, heldWords, outWords, partText, shown};
+ghost use Rattle.spelling.specs.Spelling.{letterWord, settingWords, recordWords, causeWord, powerWords, stateWords, targetWord, stageWords, requestWords, slotWords, spacedText, heldWords, outWords, entriesWords, tallyWords, partText, shown};
+use asked::Entries;
 use asked::Part;
 use asked::State;
+use asked::Tally;
 use conditions::Cause;
 use conditions::Condition;
 use conditions::Power;
@@ -68,9 +70,40 @@ fn hosts_of(u: Unit, k: usize) -> Part
     Part::HasOut(out)
 }
 
+// A row of the table of counts.
+fn entries_at(counts: [u32; 12], at: usize) -> Entries
+    requires { ⌜ at < 11 ⌝ }
+    ensures { λ r. ⌜ r ≡ entriesAt at counts ⌝ }
+{
+    Entries {
+        timer: counts[at],
+        other: counts[at + 1],
+    }
+}
+
+fn tally_of(counts: [u32; 12]) -> Tally
+    ensures { λ r. ⌜ r ≡ tallyOf counts ⌝ }
+{
+    Tally {
+        active: entries_at(counts, 0),
+        a: entries_at(counts, 2),
+        b: entries_at(counts, 4),
+        c: entries_at(counts, 6),
+        y: entries_at(counts, 8),
+        z: entries_at(counts, 10),
+    }
+}
+
+fn counts_of(u: Unit) -> Part
+    ensures { λ r. ⌜ r ≡ countsPart u ⌝ }
+{
+    let counts = u.drive.counts;
+    Part::HasCounts(tally_of(counts))
+}
+
 // The part that the block's line k sets, from 0.
 fn part_of(u: Unit, k: usize) -> Part
-    ensures { λ r. ⌜ r ≡ getD (partsOf u) k (HasOut (u .out)) ⌝ }
+    ensures { λ r. ⌜ r ≡ getD (partsOf u) k (countsPart u) ⌝ }
 {
     if k < 5 {
         return settings_of(u, k);
@@ -78,7 +111,10 @@ fn part_of(u: Unit, k: usize) -> Part
     if k == 5 {
         return Part::Stands(state_of(u));
     }
-    hosts_of(u, k - 6)
+    if k < 15 {
+        return hosts_of(u, k - 6);
+    }
+    counts_of(u)
 }
 
 // ---- their lines
@@ -213,6 +249,23 @@ fn spell_out(t: Text, out: Out) -> Text
     }
 }
 
+fn spell_entries(t: Text, e: Entries) -> Text
+    ensures { λ r. ⌜ said r ≡ cut (said t ++ entriesWords e) ⌝ }
+{
+    digits::put_number(digits::put_number(t, e.timer), e.other)
+}
+
+fn spell_tally(t: Text, tally: Tally) -> Text
+    ensures { λ r. ⌜ said r ≡ cut (said t ++ tallyWords tally) ⌝ }
+{
+    let active = spell_entries(t, tally.active);
+    let a = spell_entries(active, tally.a);
+    let b = spell_entries(a, tally.b);
+    let c = spell_entries(b, tally.c);
+    let y = spell_entries(c, tally.y);
+    spell_entries(y, tally.z)
+}
+
 // The line that sets a part.
 fn spell(p: Part) -> Text
     ensures { λ r. ⌜ said r ≡ cut (partText p) ⌝ }
@@ -223,6 +276,7 @@ fn spell(p: Part) -> Text
         Part::HasSlot(host, s) => spell_slot(digits::put_number(digits::phrase(b"slot"), host), s),
         Part::HasHeld(host, h) => spell_held(digits::put_number(digits::phrase(b"held"), host), h),
         Part::HasOut(out) => spell_out(digits::phrase(b"out"), out),
+        Part::HasCounts(tally) => spell_tally(digits::phrase(b"counts"), tally),
     }
 }
 
@@ -232,7 +286,7 @@ pub fn show(u: Unit, out: &mut [u8], at: usize) -> usize
 {
     let mut n = digits::put_line(digits::phrase(b"unit"), out, at);
     let mut k = 0;
-    while k < 15 {
+    while k < 16 {
         n = digits::put_line(spell(part_of(u, k)), out, n);
         k += 1;
     }

@@ -8,47 +8,47 @@ use lib.ListN.{length, getD, List·getD-map}
 use Rattle.unit.specs.declared.Unit.{Unit}
 use Rattle.digits.specs.Sheets.{lineText}
 use Rattle.rows.proofs.Values.{values, value-in, value-past}
-use Rattle.table.specs.Below.{hostText}
+use Rattle.table.specs.Counts.{countAt}
 use Rattle.table.specs.Rows.{rowText}
-use Rattle.table.specs.Table.{headAt, markAt, texts, tableLines}
+use Rattle.table.specs.Table.{headAt, belowAt, texts, tableLines}
 
 module _ (u : Unit) where
-  abbrev hosts : List (List ℕ)
-  hosts = values (hostText u) 4 ++ []
+  abbrev counts : List (List ℕ)
+  counts = values (countAt u) 7 ++ []
 
-  abbrev marks : List (List ℕ)
-  marks = values (markAt u) 4 ++ hosts
+  abbrev below : List (List ℕ)
+  below = values (belowAt u) 8 ++ counts
 
   abbrev rows : List (List ℕ)
-  rows = values (rowText (u .drive)) 6 ++ marks
+  rows = values (rowText (u .drive)) 6 ++ below
 
   past-head : (k : ℕ) → 2 ≤ k → getD (texts u) k [] ≡ getD rows (k - 2) []
   unfolding texts
   past-head k h = value-past headAt 2 k rows [] h
 
-  past-rows : (k : ℕ) → 8 ≤ k → getD (texts u) k [] ≡ getD marks (k - 8) []
-  past-rows k h = rw (sub-add-eq k 2 6) (past-head k (omega arith) ∙ value-past (rowText (u .drive)) 6 (k - 2) marks [] (omega arith))
+  past-rows : (k : ℕ) → 8 ≤ k → getD (texts u) k [] ≡ getD below (k - 8) []
+  past-rows k h = rw (sub-add-eq k 2 6) (past-head k (omega arith) ∙ value-past (rowText (u .drive)) 6 (k - 2) below [] (omega arith))
 
-  past-marks : (k : ℕ) → 12 ≤ k → getD (texts u) k [] ≡ getD hosts (k - 12) []
-  past-marks k h = rw (sub-add-eq k 8 4) (past-rows k (omega arith) ∙ value-past (markAt u) 4 (k - 8) hosts [] (omega arith))
+  past-below : (k : ℕ) → 16 ≤ k → getD (texts u) k [] ≡ getD counts (k - 16) []
+  past-below k h = rw (sub-add-eq k 8 8) (past-rows k (omega arith) ∙ value-past (belowAt u) 8 (k - 8) counts [] (omega arith))
 
   pub head-line : (k : ℕ) → k < 2 → getD (texts u) k [] ≡ headAt k
   unfolding texts
   head-line k h = value-in headAt 2 k rows [] h
 
   pub row-line : (k : ℕ) → 2 ≤ k → k < 8 → getD (texts u) k [] ≡ rowText (u .drive) (k - 2)
-  row-line k g h = past-head k g ∙ value-in (rowText (u .drive)) 6 (k - 2) marks [] (omega arith)
+  row-line k g h = past-head k g ∙ value-in (rowText (u .drive)) 6 (k - 2) below [] (omega arith)
 
-  pub mark-line : (k : ℕ) → 8 ≤ k → k < 12 → getD (texts u) k [] ≡ markAt u (k - 8)
-  mark-line k g h = past-rows k g ∙ value-in (markAt u) 4 (k - 8) hosts [] (omega arith)
+  pub below-line : (k : ℕ) → 8 ≤ k → k < 16 → getD (texts u) k [] ≡ belowAt u (k - 8)
+  below-line k g h = past-rows k g ∙ value-in (belowAt u) 8 (k - 8) counts [] (omega arith)
 
-  pub host-line : (k : ℕ) → 12 ≤ k → k < 16 → getD (texts u) k [] ≡ hostText u (k - 12)
-  host-line k g h = past-marks k g ∙ value-in (hostText u) 4 (k - 12) [] [] (omega arith)
+  pub count-line : (k : ℕ) → 16 ≤ k → k < 23 → getD (texts u) k [] ≡ countAt u (k - 16)
+  count-line k g h = past-below k g ∙ value-in (countAt u) 7 (k - 16) [] [] (omega arith)
 
   pub line-text : (k : ℕ) → getD (tableLines u) k (lineText []) ≡ lineText (getD (texts u) k [])
   unfolding tableLines
   line-text k = List·getD-map lineText (texts u) k []
 
-  pub line-count : length (tableLines u) ≡ 16
+  pub line-count : length (tableLines u) ≡ 23
   unfolding tableLines texts
   line-count = refl

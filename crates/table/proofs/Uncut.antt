@@ -28,8 +28,9 @@ use Rattle.digits.specs.Numerals.{decimalText, rightIn}
 use Rattle.digits.proofs.Lengths.{Within, whole, looser, _then_, either, decimal, tenths, at-right, at-left, ended, none, each}
 use Rattle.table.specs.Rows.{yesText, secondsText, settingText, recordText, isRunning, leftText, recordRow, rowText}
 use Rattle.table.specs.Below.{flagText, outText, targetText, immedText, stageText, slotText, heldText, hostText}
+use Rattle.table.specs.Counts.{countHead, countText, countAt}
 use Rattle.table.specs.Table.{headText, ruleText, headAt, markAt, texts, tableLines}
-use Rattle.table.proofs.Rows.{mark, name, label}
+use Rattle.table.proofs.Rows.{mark, name, label, row-name}
 
 -- ---- a row
 
@@ -109,6 +110,13 @@ host u k =
     (whole (codes "host ") then decimal k then whole (codes "       ")
     then slot (slotOf (u .slots) k) then held (heldOf (u .held) k))
 
+column : (n : ℕ) → Within (countText n) 12
+column n = at-right (looser (omega arith) (decimal n))
+
+count : (u : Unit) (k : ℕ) → Within (countAt u k) 127
+count u zero = looser (omega arith) (whole countHead)
+count u (suc row) = looser (omega arith) (at-left (looser (omega arith) (row-name row)) then (column _ then column _ then column _))
+
 pub uncut : (u : Unit) → tableLines u ≡ map ended (texts u)
 unfolding tableLines texts
-uncut u = each 2 head (each 6 (row (u .drive)) (each 4 (below u) (each 4 (host u) none))) .lines
+uncut u = each 2 head (each 6 (row (u .drive)) (each 4 (below u) (each 4 (host u) (each 7 (count u) none)))) .lines

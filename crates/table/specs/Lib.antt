@@ -1,3 +1,4 @@
 pub mod Rows
 pub mod Below
+pub mod Counts
 pub mod Table

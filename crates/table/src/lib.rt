@@ -1,4 +1,5 @@
-// The power log for the eye: a row a condition in falling power, then the marks, the idle count and each host's operation.
+// The power log for the eye: a row a condition in falling power, then the marks, the idle count, each host's operation
+// and how often the disk went where.
 ghost use mathlib.Core.List.{[], _++_};
 ghost use mathlib.Core.Path.{_≡_};
 ghost use Prim.Native.Nat.{_<_, _-_};
@@ -7,10 +8,11 @@ ghost use Rattle.digits.specs.Sheets.{sheet, wroteAll};
 ghost use Rattle.digits.specs.Texts.{said, cut};
 ghost use Rattle.table.specs.Below;
 ghost use Rattle.table.specs.Below.{outText, targetText, stageText, requestText, slotText, heldText, hostText};
+ghost use Rattle.table.specs.Counts.{countText, rowName, columnsText, countRow, countAt};
 ghost use Rattle.table.specs.Rows;
 ghost use Rattle.table.specs.Rows.{isRunning, nameText, yesText, secondsText, settingText, recordText, leftText, labelText, recordRow, activeRow, rowText};
 ghost use Rattle.table.specs.Table;
-ghost use Rattle.table.specs.Table.{texts, tableLines};
+ghost use Rattle.table.specs.Table.{belowAt, texts, tableLines};
 use conditions::Condition;
 use digits::Text;
 use drive::Drive;
@@ -247,6 +249,65 @@ fn host_line(u: Unit, host: u32) -> Text
     put_held(operation, unit::held_of(held, host))
 }
 
+// A mark's line or a host's.
+fn below_line(u: Unit, k: usize) -> Text
+    requires { ⌜ k < 8 ⌝ }
+    ensures { λ r. ⌜ said r ≡ cut (belowAt u k) ⌝ }
+{
+    if k < 4 {
+        return mark_line(u, k);
+    }
+    host_line(u, (k - 4) as u32)
+}
+
+// ---- how often the disk went where
+
+// A count, at the right end of 12 places.
+fn put_count(t: Text, n: u32) -> Text
+    ensures { λ r. ⌜ said r ≡ cut (said t ++ countText n) ⌝ }
+{
+    digits::put_right(t, digits::put_decimal(digits::empty(), n), 12)
+}
+
+fn row_name(row: usize) -> Text
+    requires { ⌜ row < 6 ⌝ }
+    ensures { λ r. ⌜ said r ≡ cut (rowName row) ⌝ }
+{
+    if row == 0 {
+        return digits::phrase(b"Active");
+    }
+    put_name(digits::empty(), conditions::condition_at(row - 1))
+}
+
+// The row's two counts, and their sum as the page has it.
+fn put_columns(t: Text, table: [[u32; 2]; 6], row: usize) -> Text
+    requires { ⌜ row < 6 ⌝ }
+    ensures { λ r. ⌜ said r ≡ cut (said t ++ columnsText row table) ⌝ }
+{
+    let timer = put_count(t, table[row][0]);
+    let other = put_count(timer, table[row][1]);
+    put_count(other, transitions::row_sum(table, row))
+}
+
+fn count_row(u: Unit, row: usize) -> Text
+    requires { ⌜ row < 6 ⌝ }
+    ensures { λ r. ⌜ said r ≡ cut (countRow u row) ⌝ }
+{
+    let counts = u.drive.counts;
+    let name = digits::pad_to(row_name(row), 13);
+    put_columns(name, transitions::table_of(counts), row)
+}
+
+fn count_line(u: Unit, k: usize) -> Text
+    requires { ⌜ k < 7 ⌝ }
+    ensures { λ r. ⌜ said r ≡ cut (countAt u k) ⌝ }
+{
+    if k == 0 {
+        return digits::phrase(b"entries          by timer   otherwise    page 1Ah");
+    }
+    count_row(u, k - 1)
+}
+
 // ---- the whole
 
 fn head_line(k: usize) -> Text
@@ -262,7 +323,7 @@ fn head_line(k: usize) -> Text
 
 // The line of that number, from 0.
 fn line_at(u: Unit, k: usize) -> Text
-    requires { ⌜ k < 16 ⌝ }
+    requires { ⌜ k < 23 ⌝ }
     ensures { λ r. ⌜ said r ≡ cut (getD (texts u) k []) ⌝ }
 {
     let d = u.drive;
@@ -272,10 +333,10 @@ fn line_at(u: Unit, k: usize) -> Text
     if k < 8 {
         return row(d, k - 2);
     }
-    if k < 12 {
-        return mark_line(u, k - 8);
+    if k < 16 {
+        return below_line(u, k - 8);
     }
-    host_line(u, (k - 12) as u32)
+    count_line(u, k - 16)
 }
 
 // Writes the table into `out` from `at` on, and answers the place after it.
@@ -284,7 +345,7 @@ pub fn put_table(u: Unit, out: &mut [u8], at: usize) -> usize
 {
     let mut n = at;
     let mut k = 0;
-    while k < 16 {
+    while k < 23 {
         n = digits::put_line(line_at(u, k), out, n);
         k += 1;
     }

@@ -5,7 +5,7 @@ use borrow.Author.Needs.{needs}
 use lib.ListN.{length}
 use lib.Seq.{length-take-le}
 use Rattle.answers.proofs.Buffers.{has-room, lent-front, ComesBack, comes-back}
-use Rattle.answers.proofs.LogPage.{log-keeps}
+use Rattle.answers.proofs.LogPage.{page-keeps}
 use Rattle.answers.proofs.log.Statement.{statement}
 use Rattle.answers.proofs.log.Tie as tie
 
@@ -21,15 +21,15 @@ array-borrow-prefix-buffer c = search needs
 within : (a : tie.After-buffer-len) → a .buffer-len .result ≤ length (a .before .unwritten .result)
 within a = has-room _ _ (a .before .unwritten .ensures) (a .buffer-len .ensures .1)
 
-slice-aggregate-log-page : tie.Need-slice-aggregate-log-page
-slice-aggregate-log-page c = sym (length-take-le _ _ (within (c .before)))
+slice-aggregate-read-page : tie.Need-slice-aggregate-read-page
+slice-aggregate-read-page c = sym (length-take-le _ _ (within (c .before)))
 
-log-page-requires : tie.Need-log-page-requires
-log-page-requires c κs = tt
+read-page-requires : tie.Need-read-page-requires
+read-page-requires c κs = tt
 
-back : (a : tie.After-log-page) → let b = a .before .before in
-    ComesBack (b .before .unwritten .result) (a .log-page .last .1 .0) (b .buffer-len .result)
-back a = let b = a .before .before in comes-back _ _ _ (within b) (a .log-page .kept .1 .0)
+back : (a : tie.After-read-page) → let b = a .before .before in
+    ComesBack (b .before .unwritten .result) (a .read-page .last .1 .1 .0) (b .buffer-len .result)
+back a = let b = a .before .before in comes-back _ _ _ (within b) (a .read-page .kept .1 .1 .0)
 
 array-share-prefix-buffer : tie.Need-array-share-prefix-buffer
 array-share-prefix-buffer c = back (c .before) .within
@@ -52,7 +52,7 @@ returns c =
     let whole = b .before .unwritten in
     let n = b .buffer-len in
     let front = lent-front (whole .result) (n .result) (start .len) (whole .ensures) (n .ensures .0) (n .ensures .1) in
-    rw (← front) (sym (log-keeps _ _), rw (put .put-filled .ensures, back a .front, a .log-page .ensures .0, a .log-page .ensures .1))
+    rw (← front) (sym (page-keeps (start .page) (start .u) _), rw (put .put-filled .ensures, back a .front, a .read-page .ensures .0, a .read-page .ensures .1))
 
 pub log-spec : {M : Type 1} → statement M
 log-spec =
@@ -61,8 +61,8 @@ log-spec =
     unwritten-requires
     buffer-len-requires
     array-borrow-prefix-buffer
-    slice-aggregate-log-page
-    log-page-requires
+    slice-aggregate-read-page
+    read-page-requires
     array-share-prefix-buffer
     slice-aggregate-put-filled
     put-filled-requires

@@ -52,6 +52,12 @@ enum-known-call-6 c = c .match .keys6
 log-requires : tie.Need-log-requires
 log-requires c κs = tt
 
+enum-known-call-7 : tie.Need-enum-known-call-7
+enum-known-call-7 c = c .match .keys7
+
+log-requires-2 : tie.Need-log-requires-2
+log-requires-2 c κs = tt
+
 same-length : tie.Need-same-length
 same-length c = c .before .before .put-told .kept .1 .0
 
@@ -102,13 +108,22 @@ returns-5 c =
     rw (put .before .before .before .call5 .given .1) (put .sense .ensures)
 
 same-length-6 : tie.Need-same-length-6
-same-length-6 c = c .before .before .log .kept .1 .1 .0
+same-length-6 c = c .before .before .log .kept .1 .1 .1 .0
 
 returns-6 : tie.Need-returns-6
 unfolding callResponse
 returns-6 c =
     let put = c .before .before in
     rw (put .before .before .before .call6 .given .1) (put .log .ensures)
+
+same-length-7 : tie.Need-same-length-7
+same-length-7 c = c .before .before .log2 .kept .1 .1 .1 .0
+
+returns-7 : tie.Need-returns-7
+unfolding callResponse
+returns-7 c =
+    let put = c .before .before in
+    rw (put .before .before .before .call7 .given .1) (put .log2 .ensures)
 
 pub make-spec : {M : Type 1} → statement M
 make-spec =
@@ -130,6 +145,8 @@ make-spec =
     sense-requires
     enum-known-call-6
     log-requires
+    enum-known-call-7
+    log-requires-2
     same-length
     returns
     same-length-2
@@ -141,4 +158,6 @@ make-spec =
     same-length-5
     returns-5
     same-length-6
-    returns-6)
+    returns-6
+    same-length-7
+    returns-7)

@@ -33,6 +33,12 @@ enum-known-p-5 c = search needs
 with-out-requires : tie.Need-with-out-requires
 with-out-requires c κs = tt
 
+enum-known-p-6 : tie.Need-enum-known-p-6
+enum-known-p-6 c = search needs
+
+set-counts-requires : tie.Need-set-counts-requires
+set-counts-requires c κs = tt
+
 returns : tie.Need-returns
 returns c = rw (c .set-record .ensures, c .before .before .p .given .1)
 
@@ -48,6 +54,9 @@ returns-4 c = rw (c .with-held .ensures, c .before .before .p4 .given .1)
 returns-5 : tie.Need-returns-5
 returns-5 c = rw (c .with-out .ensures, c .before .before .p5 .given .1)
 
+returns-6 : tie.Need-returns-6
+returns-6 c = rw (c .set-counts .ensures, c .before .before .p6 .given .1)
+
 pub set-part-spec : {M : Type 1} → statement M
 set-part-spec =
     tie.close
@@ -62,8 +71,11 @@ set-part-spec =
     with-held-requires
     enum-known-p-5
     with-out-requires
+    enum-known-p-6
+    set-counts-requires
     returns
     returns-2
     returns-3
     returns-4
-    returns-5)
+    returns-5
+    returns-6)

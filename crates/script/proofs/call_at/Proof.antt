@@ -35,6 +35,9 @@ sense-line-requires c κs = tt
 log-line-requires : tie.Need-log-line-requires
 log-line-requires c κs = tt
 
+transitions-line-requires : tie.Need-transitions-line-requires
+transitions-line-requires c κs = tt
+
 returns : tie.Need-returns
 returns c = rw (c .before .match .keys1) (c .tick-line .ensures)
 
@@ -66,7 +69,10 @@ returns-10 : tie.Need-returns-10
 returns-10 c = rw (c .before .match .keys10) (c .log-line .ensures)
 
 returns-11 : tie.Need-returns-11
-returns-11 c = let a = c .before .before .args in past-end callEntries (a .place) (now (a .line)) (c .match .rest)
+returns-11 c = rw (c .before .match .keys11) (c .transitions-line .ensures)
+
+returns-12 : tie.Need-returns-12
+returns-12 c = let a = c .before .before .args in past-end callEntries (a .place) (now (a .line)) (c .match .rest)
 
 pub call-at-spec : {M : Type 1} → statement M
 call-at-spec =
@@ -82,6 +88,7 @@ call-at-spec =
     answer-line-requires
     sense-line-requires
     log-line-requires
+    transitions-line-requires
     returns
     returns-2
     returns-3
@@ -92,4 +99,5 @@ call-at-spec =
     returns-8
     returns-9
     returns-10
-    returns-11)
+    returns-11
+    returns-12)

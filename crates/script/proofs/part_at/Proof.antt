@@ -20,6 +20,9 @@ held-line-requires c κs = tt
 out-line-requires : tie.Need-out-line-requires
 out-line-requires c κs = tt
 
+counts-line-requires : tie.Need-counts-line-requires
+counts-line-requires c κs = tt
+
 returns : tie.Need-returns
 returns c = rw (c .before .match .keys1) (c .condition-line .ensures)
 
@@ -36,7 +39,10 @@ returns-5 : tie.Need-returns-5
 returns-5 c = rw (c .before .match .keys5) (c .out-line .ensures)
 
 returns-6 : tie.Need-returns-6
-returns-6 c = let a = c .before .before .args in past-end partEntries (a .place) (now (a .line)) (c .match .rest)
+returns-6 c = rw (c .before .match .keys6) (c .counts-line .ensures)
+
+returns-7 : tie.Need-returns-7
+returns-7 c = let a = c .before .before .args in past-end partEntries (a .place) (now (a .line)) (c .match .rest)
 
 pub part-at-spec : {M : Type 1} → statement M
 part-at-spec =
@@ -47,9 +53,11 @@ part-at-spec =
     slot-line-requires
     held-line-requires
     out-line-requires
+    counts-line-requires
     returns
     returns-2
     returns-3
     returns-4
     returns-5
-    returns-6)
+    returns-6
+    returns-7)

@@ -1,7 +1,7 @@
--- The settings, the state and the hosts' parts follow each other in the list.
+-- The settings, the state, the hosts' parts and the counts follow each other in the list.
 use native.Mathlib.Omega.{arith}
 use borrow.Author.Needs.{needs}
-use Rattle.spelling.proofs.Lines.{settings-line, host-line}
+use Rattle.spelling.proofs.Lines.{settings-line, host-line, counts-line}
 use Rattle.spelling.proofs.part_of.Statement.{statement}
 use Rattle.spelling.proofs.part_of.Tie as tie
 
@@ -24,7 +24,17 @@ hosts-of-requires : tie.Need-hosts-of-requires
 hosts-of-requires c κs = tt
 
 returns-3 : tie.Need-returns-3
-returns-3 c = let a = c .before .before .before .args in rw (c .hosts-of .ensures) (host-line (a .u) (a .k) (omega arith))
+returns-3 c =
+    let a = c .before .before .before .before .args in
+    rw (c .hosts-of .ensures) (host-line (a .u) (a .k) (omega arith) (c .before .if3 .taken))
+
+counts-of-requires : tie.Need-counts-of-requires
+counts-of-requires c κs = tt
+
+returns-4 : tie.Need-returns-4
+returns-4 c =
+    let a = c .before .before .before .before .args in
+    rw (c .counts-of .ensures) (counts-line (a .u) (a .k) (c .before .if3 .left))
 
 pub part-of-spec : {M : Type 1} → statement M
 part-of-spec =
@@ -36,4 +46,6 @@ part-of-spec =
     returns-2
     sub-hosts-of
     hosts-of-requires
-    returns-3)
+    returns-3
+    counts-of-requires
+    returns-4)

@@ -74,6 +74,18 @@ phrase-requires-5 c κs = tt
 spell-out-requires : tie.Need-spell-out-requires
 spell-out-requires c κs = tt
 
+enum-known-p-6 : tie.Need-enum-known-p-6
+enum-known-p-6 c = search needs
+
+slice-aggregate-phrase-6 : tie.Need-slice-aggregate-phrase-6
+slice-aggregate-phrase-6 c = search needs
+
+phrase-requires-6 : tie.Need-phrase-requires-6
+phrase-requires-6 c κs = tt
+
+spell-tally-requires : tie.Need-spell-tally-requires
+spell-tally-requires c κs = tt
+
 returns : tie.Need-returns
 unfolding partText
 returns c =
@@ -107,6 +119,12 @@ returns-5 c =
     let a = c .before in
     rw (a .before .before .before .p5 .given .1) (rw (a .phrase5 .ensures, cut-once) at (c .spell-out .ensures))
 
+returns-6 : tie.Need-returns-6
+unfolding partText
+returns-6 c =
+    let a = c .before in
+    rw (a .before .before .before .p6 .given .1) (rw (a .phrase6 .ensures, cut-once) at (c .spell-tally .ensures))
+
 pub spell-spec : {M : Type 1} → statement M
 spell-spec =
     tie.close
@@ -134,8 +152,13 @@ spell-spec =
     slice-aggregate-phrase-5
     phrase-requires-5
     spell-out-requires
+    enum-known-p-6
+    slice-aggregate-phrase-6
+    phrase-requires-6
+    spell-tally-requires
     returns
     returns-2
     returns-3
     returns-4
-    returns-5)
+    returns-5
+    returns-6)

@@ -1,7 +1,7 @@
 -- Each group of lines stands in the list after the groups before it.
 use native.Mathlib.Omega.{arith}
 use borrow.Author.Needs.{needs}
-use Rattle.table.proofs.Lines.{head-line, row-line, mark-line, host-line}
+use Rattle.table.proofs.Lines.{head-line, row-line, below-line, count-line}
 use Rattle.table.proofs.line_at.Statement.{statement}
 use Rattle.table.proofs.line_at.Tie as tie
 
@@ -21,24 +21,21 @@ returns-2 c =
     let a = c .before .before .before .before .args in
     rw (row-line (a .u) (a .k) (omega arith) (omega arith)) (c .row .ensures)
 
-mark-line-requires : tie.Need-mark-line-requires
-mark-line-requires c κs = tt
+below-line-requires : tie.Need-below-line-requires
+below-line-requires c κs = search needs
 
 returns-3 : tie.Need-returns-3
 returns-3 c =
     let a = c .before .before .before .before .before .args in
-    rw (mark-line (a .u) (a .k) (omega arith) (omega arith)) (c .mark-line .ensures)
+    rw (below-line (a .u) (a .k) (omega arith) (omega arith)) (c .below-line .ensures)
 
-cast-host-line : tie.Need-cast-host-line
-cast-host-line c = search needs
-
-host-line-requires : tie.Need-host-line-requires
-host-line-requires c κs = tt
+count-line-requires : tie.Need-count-line-requires
+count-line-requires c κs = search needs
 
 returns-4 : tie.Need-returns-4
 returns-4 c =
     let a = c .before .before .before .before .before .args in
-    rw (host-line (a .u) (a .k) (omega arith) (omega arith)) (c .host-line .ensures)
+    rw (count-line (a .u) (a .k) (omega arith) (omega arith)) (c .count-line .ensures)
 
 pub line-at-spec : {M : Type 1} → statement M
 line-at-spec =
@@ -48,8 +45,7 @@ line-at-spec =
     returns
     row-requires
     returns-2
-    mark-line-requires
+    below-line-requires
     returns-3
-    cast-host-line
-    host-line-requires
+    count-line-requires
     returns-4)
