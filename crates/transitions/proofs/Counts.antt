@@ -43,8 +43,8 @@ pub flat-after : (p q : Power) (counts : List ℕ) → length counts ≡ 12 → 
 unfolding countsAfter
 flat-after p q counts twelve = on (eqb (depth p) (depth q))
   where
-    on : (b : Bool) → let counted = countedIn (depth q) (columnOf q) (tableOf counts) in
-        flatOf (cond b (tableOf counts) counted) ≡ cond b counts (flatOf counted)
+    on : (b : Bool) → let after = cond b (tableOf counts) (countedIn (depth q) (columnOf q) (tableOf counts)) in
+        flatOf after ≡ cond b counts (flatOf after)
     on true = flat-back counts twelve
     on false = refl
 
@@ -114,7 +114,8 @@ unfolding countsAfter
 cell-after p q counts row column h k = on (eqb (depth p) (depth q))
   where
     on : (b : Bool) → let n = cell row column (tableOf counts) in
-        cell row column (tableOf (cond b counts (flatOf (countedIn (depth q) (columnOf q) (tableOf counts)))))
+        let after = cond b (tableOf counts) (countedIn (depth q) (columnOf q) (tableOf counts)) in
+        cell row column (tableOf (cond b counts (flatOf after)))
         ≡ cond (not b && (eqb (depth q) row && eqb (columnOf q) column)) (oneEntry n) n
     on true = refl
     on false =

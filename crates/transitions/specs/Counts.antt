@@ -62,7 +62,7 @@ flatOf t =
 abbrev pub tableAfter : Power → Power → List (List ℕ) → List (List ℕ)
 tableAfter before entered t = cond (eqb (depth before) (depth entered)) t (countedIn (depth entered) (columnOf entered) t)
 
--- The flat row likewise.
+-- The flat row after it: that of the table. Where nothing is counted it stays as it is, whatever its length.
 unfoldable pub countsAfter : Power → Power → List ℕ → List ℕ
 countsAfter before entered counts =
-    cond (eqb (depth before) (depth entered)) counts (flatOf (countedIn (depth entered) (columnOf entered) (tableOf counts)))
+    cond (eqb (depth before) (depth entered)) counts (flatOf (tableAfter before entered (tableOf counts)))
