@@ -11,7 +11,6 @@ use Rattle.conditions.specs.declared.Condition.the-variants.{StandbyY, StandbyZ
 use Rattle.conditions.specs.declared.Cause.the-variants.{Command}
 use Rattle.conditions.specs.declared.Power.the-variants.{Active, Low}
 use Rattle.drive.specs.Records.{unsupported}
-use Rattle.requests.specs.declared.Target.{Target}
 use Rattle.requests.specs.declared.Target.the-variants.{Stop, Start, GoTo}
 use Rattle.requests.specs.declared.Request.{Request}
 use Rattle.requests.specs.declared.Reply.{Reply}
@@ -20,9 +19,9 @@ use Rattle.unit.specs.Units.{slotOf, wellFormed}
 use Rattle.unit.specs.declared.Slot.the-variants.{Waiting}
 use Rattle.unit.specs.declared.Out.the-variants.{OutFor}
 use Rattle.unit.specs.declared.Unit.{Unit}
-use Rattle.operations.specs.Operations.{lastOf, dueFrom, oneMore, flushesOf, countsAsGood}
+use Rattle.operations.specs.Operations.{lastOf, dueFrom, isFlush, oneMore, flushesOf}
 use Rattle.operations.specs.declared.Due.the-variants.{Flush}
-use Rattle.exchange.specs.Answered.{failed, succeeded, lastAnswered, answeredFor}
+use Rattle.exchange.specs.Answered.{failed, flushAnswered, lastAnswered, answeredFor}
 use Rattle.exchange.specs.Exchange.{answerOutcome}
 use Rattle.calls.proofs.Leaves.{Leaves}
 use Rattle.calls.proofs.Progress.{answer-taken, last-no-flush}
@@ -45,6 +44,26 @@ module _ (u : Unit) (fine : wellFormed u ≡ true) (host : ℕ) (q : Request) (w
   unfolding answeredFor
   bad-flush due = rw (answer-taken u fine host q waiting out Bad, due) (failed-leaves (oneMore (flushesOf (q .stage))))
 
+  -- "a failure is held", with IMMED 1, and nothing else is: what is held stays through a good answer,
+  pub good-not-held : answerOutcome u host Good .unit .held ≡ u .held
+  unfolding answeredFor
+  good-not-held = rw (answer-taken u fine host q waiting out Good) (on (isFlush (dueFrom (u .unsaved) q)))
+    where
+      on : (b : Bool) → cond b (flushAnswered u host q Good) (lastAnswered u host q Good) .unit .held ≡ u .held
+      on true = refl
+      on false = refl
+
+  -- and "With IMMED 0 the status comes with the last answer": through every answer.
+  pub told-not-held : q .immed ≡ false → (reply : Reply) → answerOutcome u host reply .unit .held ≡ u .held
+  unfolding answeredFor
+  told-not-held at-once reply = rw (answer-taken u fine host q waiting out reply) (on (isFlush (dueFrom (u .unsaved) q)) reply)
+    where
+      on : (b : Bool) (reply : Reply) → cond b (flushAnswered u host q reply) (lastAnswered u host q reply) .unit .held ≡ u .held
+      on true Good = refl
+      on true Bad = rw at-once
+      on false Good = refl
+      on false Bad = rw at-once
+
   module _ (last : dueFrom (u .unsaved) q ≡ lastOf (q .target)) where
     judged : (reply : Reply) → answerOutcome u host reply ≡ lastAnswered u host q reply
     unfolding answeredFor
@@ -59,16 +78,10 @@ module _ (u : Unit) (fine : wellFormed u ≡ true) (host : ℕ) (q : Request) (w
         → Leaves (Low (cond flag StandbyY StandbyZ) Command) true (u .unsaved) (answerOutcome u host Good .unit)
     good-stop flag stops on = rw (judged Good, stops) (record { power = rw on; stopped = refl; unsaved = refl; idle = refl })
 
-    -- "Start counts as good whatever the verify answered (004), and leaves Active, stopped zero."
-    pub any-start : (reply : Reply) → q .target ≡ Start → Leaves Active false (u .unsaved) (answerOutcome u host reply .unit)
-    any-start reply starts = rw (judged reply, starts) (record { power = refl; stopped = refl; unsaved = refl; idle = refl })
+    -- A start whose verify is good: Active, and "zero for any other".
+    pub good-start : q .target ≡ Start → Leaves Active false (u .unsaved) (answerOutcome u host Good .unit)
+    good-start starts = rw (judged Good, starts) (record { power = refl; stopped = refl; unsaved = refl; idle = refl })
 
-    -- "Bad last command: Active, failed, marks as before."
-    pub bad-last : (q .target ≡ Start → ⊥) → Leaves Active (u .stopped) (u .unsaved) (answerOutcome u host Bad .unit)
-    bad-last other = rw (judged Bad) (on (q .target) other)
-      where
-        on : (t : Target) → (t ≡ Start → ⊥)
-            → Leaves Active (u .stopped) (u .unsaved) (cond (countsAsGood t Bad) (succeeded u host q) (failed u host q (flushesOf (q .stage))) .unit)
-        on Stop h = failed-leaves (flushesOf (q .stage))
-        on Start h = absurd (h refl)
-        on (GoTo c) h = failed-leaves (flushesOf (q .stage))
+    -- "Bad last command: Active, failed, marks as before." Request (ii), of a bad verify: "unit Active, stopped mark as before."
+    pub bad-last : Leaves Active (u .stopped) (u .unsaved) (answerOutcome u host Bad .unit)
+    bad-last = rw (judged Bad) (failed-leaves (flushesOf (q .stage)))

@@ -1,14 +1,16 @@
 -- A call changes no slot and no held sense but those of its own host: each effect sets the one or the other there, or clears all.
 use mathlib.Core.Path.{_≡_, refl}
-use mathlib.Core.Bool.{true, false≢true}
+use mathlib.Core.Bool.{Bool, true, false, _||_, false≢true, true≢false}
+use mathlib.Core.List.{[]}
 use Prim.Native.Nat.{ℕ}
 use lib.ListN.{replicate}
+use Rattle.requests.specs.declared.Reply.the-variants.{Good}
 use Rattle.unit.specs.Units.{emptySlot, slotOf, noneHeld, heldOf}
 use Rattle.unit.specs.declared.Unit.{Unit}
 use Rattle.unit.specs.declared.Out.the-variants.{NoneOut}
 use Rattle.refusals.specs.declared.Verdict.the-variants.{Clear}
 use Rattle.calls.specs.Calls.{Call, setFeatures, tick, read, write, powerOn, hardReset, softReset, startStop, next, answer, requestSense, logPage, transitionsPage, outcome, step}
-use Rattle.calls.specs.Described.{Reach, nobody, only, everybody, reachOf, isReset, effect}
+use Rattle.calls.specs.Described.{Reach, nobody, only, everybody, reachOf, isReset, sameKind, effect}
 use Rattle.calls.specs.Table.{verdictIn}
 use Rattle.calls.proofs.Numbers.{acceptance-does}
 use Rattle.calls.proofs.Steps.{after-every}
@@ -57,6 +59,32 @@ others-spared u c host k e other = (rw e at (spared u c)) k other
 -- EPC, a tick and a read of the log page change no slot and no held sense at all.
 pub all-spared : (u : Unit) (c : Call) → reachOf c ≡ nobody → (outcome u c .unit .slots ≡ u .slots) × (outcome u c .unit .held ≡ u .held)
 all-spared u c e = rw e at (spared u c)
+
+-- ---- what is held
+
+-- Only an answer, REQUEST SENSE and a reset change what is held; of the answers, only a bad one with IMMED 1 (Answers · good-not-held, told-not-held).
+abbrev pub mayHold : Call → Bool
+mayHold c = isReset c || sameKind c (answer 0 Good) || sameKind c (requestSense 0 [])
+
+pub held-kept : (u : Unit) (c : Call) → mayHold c ≡ false → step u c .held ≡ u .held
+held-kept u = after-every (λ c v. mayHold c ≡ false → v .held ≡ u .held) u (record {
+  none = λ c h. refl;
+  aborts = λ q h. refl;
+  epc = λ q e h. refl;
+  ticks = λ e h. refl;
+  reads = λ host h. refl;
+  writes = λ host h. refl;
+  powers-on = λ h. absurd (true≢false h);
+  resets-hard = λ h. absurd (true≢false h);
+  resets-soft = λ h. absurd (true≢false h);
+  accepts = λ host cdb t e w h. refl;
+  sends = λ host e h. refl;
+  flushes = λ host reply q e f h. absurd (true≢false h);
+  fails = λ host reply h. absurd (true≢false h);
+  defers = λ host reply f h. absurd (true≢false h);
+  succeeds = λ host reply q e h. absurd (true≢false h);
+  tells = λ host buffer h. absurd (true≢false h);
+})
 
 -- ---- resets
 

@@ -1,7 +1,7 @@
--- What the medium's use, a read of a log page and the resets leave of the condition, the settings, the marks and the idle count, field by field: each
--- accepted call has its effect, and the effect is computed. What resets take from the hosts is Hosts · reset-clears.
-use mathlib.Core.Path.{_≡_, refl, _∙_}
-use mathlib.Core.Bool.{Bool, true, false}
+-- What the medium's use, START STOP UNIT, the next command, REQUEST SENSE, log pages and resets leave of the condition, the settings, the marks and the
+-- idle count: each accepted call has its effect, and the effect is computed field by field. What resets take from the hosts is Hosts · reset-clears.
+use mathlib.Core.Path.{_≡_, ap, refl, sym, _∙_}
+use mathlib.Core.Bool.{Bool, true, false, true≢false}
 use mathlib.Core.List.{List}
 use Prim.Native.Nat.{ℕ, _<_}
 use lib.ListN.{length, getD}
@@ -12,20 +12,25 @@ use Rattle.transitions.specs.Page.{transitionBytes}
 use Rattle.conditions.specs.declared.Power.{Power}
 use Rattle.conditions.specs.declared.Power.the-variants.{Active}
 use Rattle.drive.specs.Drives.{withCounts, savedRestored, used, poweredOn}
+use Rattle.drive.proofs.Ticks.{tick-records}
+use Rattle.drive.proofs.Used.{used-leaves}
 use Rattle.drive.specs.Records.{driveWellFormed}
 use Rattle.drive.specs.declared.Record.{Record}
 use Rattle.refusals.specs.Refusals.{lowest}
 use Rattle.refusals.specs.declared.Answer.the-variants.{Done}
 use Rattle.refusals.specs.declared.Verdict.{Verdict}
 use Rattle.refusals.specs.declared.Verdict.the-variants.{Clear, Given}
-use Rattle.unit.specs.Units.{wellFormed, withDrive}
+use Rattle.unit.specs.Units.{wellFormed, withDrive, largestOf, heldOf}
+use Rattle.unit.specs.declared.Held.the-variants.{Nothing}
+use Rattle.senses.specs.Senses.{senseBytes, powerSense}
 use Rattle.unit.specs.declared.Unit.{Unit}
 use Rattle.engine.specs.Engine.{powerOnOutcome, resetOutcome}
-use Rattle.readouts.specs.Readouts.{logOutcome, transitionsOutcome, countsHanded}
-use Rattle.calls.specs.Calls.{Call, read, write, powerOn, hardReset, softReset, logPage, transitionsPage, plain, outcome, step}
+use Rattle.readouts.specs.Readouts.{toldBytes, logOutcome, transitionsOutcome, countsHanded}
+use Rattle.calls.specs.Calls.{Call, read, write, powerOn, hardReset, softReset, startStop, next, requestSense, logPage, transitionsPage, plain, outcome, step}
 use Rattle.calls.specs.Table.{isEpc, verdictIn}
-use Rattle.calls.specs.Described.{effect}
-use Rattle.calls.proofs.Numbers.{acceptance-does, other-keeps}
+use Rattle.calls.specs.Described.{effect, isPowerOn}
+use Rattle.calls.proofs.Numbers.{acceptance-does, other-keeps, own-told, start-wants}
+use Rattle.calls.proofs.Steps.{after-every}
 
 -- The record has this condition and these marks, and idle count 0.
 pub record Leaves (p : Power) (stop save : Bool) (v : Unit) : Type 0 where
@@ -47,6 +52,52 @@ module _ (u : Unit) (host : ℕ) where
       → Leaves Active (u .stopped) true (step u (write host)) × (step u (write host) .drive .records ≡ u .drive .records)
   unfolding used
   write-leaves e = rw (acceptance-does u (write host) e .0) (record { power = refl; stopped = refl; unsaved = refl; idle = refl }, refl)
+
+-- ---- START STOP UNIT, the next command, REQUEST SENSE
+
+-- Each is accepted and moves nothing: the condition, the marks and the settings are changed by the drive's answer.
+module _ (u : Unit) (host : ℕ) where
+  pub accepted-leaves : (cdb : List ℕ) → verdictIn (outcome u (startStop host cdb) .said) ≡ Clear
+      → Leaves (u .drive .power) (u .stopped) (u .unsaved) (step u (startStop host cdb))
+  accepted-leaves cdb e =
+      let wants = start-wants u host cdb (sym (own-told u (startStop host cdb)) ∙ e) in
+      rw (acceptance-does u (startStop host cdb) e .0, wants .1) (record { power = refl; stopped = refl; unsaved = refl; idle = refl })
+
+  pub next-leaves : verdictIn (outcome u (next host) .said) ≡ Clear → Leaves (u .drive .power) (u .stopped) (u .unsaved) (step u (next host))
+  next-leaves e = rw (acceptance-does u (next host) e .0) (record { power = refl; stopped = refl; unsaved = refl; idle = refl })
+
+  pub sense-leaves : (buffer : List ℕ) → verdictIn (outcome u (requestSense host buffer) .said) ≡ Clear
+      → Leaves (u .drive .power) (u .stopped) (u .unsaved) (step u (requestSense host buffer))
+  sense-leaves buffer e =
+      rw (acceptance-does u (requestSense host buffer) e .0) (record { power = refl; stopped = refl; unsaved = refl; idle = refl })
+
+  -- "else key 0 with the condition": whatever the marks, so of a unit that is still stopped too.
+  pub condition-told : (buffer : List ℕ) → verdictIn (outcome u (requestSense host buffer) .said) ≡ Clear → heldOf (u .held) host ≡ Nothing
+      → outcome u (requestSense host buffer) .buffer ≡ senseBytes false (powerSense (u .drive .power))
+  condition-told buffer e none = acceptance-does u (requestSense host buffer) e .1 ∙ ap (toldBytes (u .drive .power)) none
+
+-- ---- the settings
+
+-- No call but an EPC subcommand and a power-on changes a setting.
+pub settings-kept : (u : Unit) (c : Call) → isEpc c ≡ false → isPowerOn c ≡ false → step u c .drive .records ≡ u .drive .records
+settings-kept u = after-every (λ c v. isEpc c ≡ false → isPowerOn c ≡ false → v .drive .records ≡ u .drive .records) u (record {
+  none = λ c e p. refl;
+  aborts = λ q e p. refl;
+  epc = λ q clear e p. absurd (true≢false e);
+  ticks = λ none e p. tick-records (largestOf u) (u .drive);
+  reads = λ host e p. used-leaves (u .drive) .0;
+  writes = λ host e p. used-leaves (u .drive) .0;
+  powers-on = λ e p. absurd (true≢false p);
+  resets-hard = λ e p. refl;
+  resets-soft = λ e p. refl;
+  accepts = λ host cdb t clear w e p. refl;
+  sends = λ host clear e p. refl;
+  flushes = λ host reply q w f e p. refl;
+  fails = λ host reply e p. refl;
+  defers = λ host reply f e p. refl;
+  succeeds = λ host reply q w e p. refl;
+  tells = λ host buffer e p. refl;
+})
 
 -- ---- the log pages
 

@@ -28,7 +28,7 @@ use Rattle.requests.specs.declared.Request.{Request}
 use Rattle.unit.specs.declared.Out.{Out}
 use Rattle.unit.specs.declared.Out.the-variants.{NoneOut, OutFor}
 use Rattle.unit.specs.declared.Unit.{Unit}
-use Rattle.operations.specs.Operations.{registersOf, dueFrom, isFlush, isGood, countsAsGood, acceptedAs}
+use Rattle.operations.specs.Operations.{registersOf, dueFrom, isFlush, isGood, acceptedAs}
 use Rattle.exchange.specs.Answered.{flushedWell, failed, succeeded, flushAnswered, lastAnswered, answeredFor}
 use Rattle.cdb.specs.Cdb.{immed, wanted, fits, requestFor}
 use Rattle.bridge.specs.Bridge.{startStopRows, startStopSettled, startStopOutcome}
@@ -119,7 +119,7 @@ unfolding answeredFor
 answered-clear u host q reply =
     clear-either (isFlush (dueFrom (u .unsaved) q)) (flushAnswered u host q reply) (lastAnswered u host q reply)
     (clear-either (isGood reply) (flushedWell u host q) (failed u host q _) refl refl)
-    (clear-either (countsAsGood (q .target) reply) (succeeded u host q) (failed u host q _) refl refl)
+    (clear-either (isGood reply) (succeeded u host q) (failed u host q _) refl refl)
 
 answer-told : (u : Unit) (host : ℕ) (reply : Reply) (given : Verdict) → lowest (answerRows u host) ≡ given
     → verdictIn (progressed (answerSettled u host reply given .answer)) ≡ given

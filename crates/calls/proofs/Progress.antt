@@ -27,7 +27,7 @@ use Rattle.refusals.specs.declared.Verdict.{Verdict}
 use Rattle.refusals.specs.declared.Verdict.the-variants.{Clear, Given}
 use Rattle.refusals.specs.declared.Answer.the-variants.{Done}
 use Rattle.unit.specs.declared.Unit.{Unit}
-use Rattle.operations.specs.Operations.{registersOf, lastOf, dueFrom, isFlush, oneMore, flushesOf, flushCounted, isGood, countsAsGood}
+use Rattle.operations.specs.Operations.{registersOf, lastOf, dueFrom, isFlush, oneMore, flushesOf, flushCounted, isGood}
 use Rattle.exchange.specs.Answered.{flushedWell, failed, succeeded, flushAnswered, lastAnswered, answeredFor}
 use Rattle.bridge.specs.Bridge.{startStopRows}
 use Rattle.exchange.specs.Exchange.{nextRows, nextOutcome, answerRows, answerOutcome}
@@ -134,7 +134,7 @@ module _ (u : Unit) (host : ℕ) (q : Request) (inside : host < length (u .slots
   succeeded-over = record { report = _; answer = refl; slot = own-slot (u .slots) host Empty inside; out = refl }
 
   last-over : (reply : Reply) → Over host (lastAnswered u host q reply)
-  last-over reply = either (Over host) (countsAsGood (q .target) reply) _ _ succeeded-over (failed-over (flushesOf (q .stage)))
+  last-over reply = either (Over host) (isGood reply) _ _ succeeded-over (failed-over (flushesOf (q .stage)))
 
   flushed-counted : Counted host q (flushedWell u host q)
   flushed-counted = record { answer = refl; slot = own-slot (u .slots) host _ inside; unsaved = refl; out = refl }

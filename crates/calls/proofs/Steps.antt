@@ -25,7 +25,7 @@ use Rattle.unit.specs.declared.Held.the-variants.{Holds}
 use Rattle.unit.specs.declared.Unit.{Unit}
 use Rattle.cdb.specs.Cdb.{wanted, requestFor}
 use Rattle.exchange.specs.Answered.{taken, flushedWell, failed, succeeded, answeredFor}
-use Rattle.operations.specs.Operations.{failureOf, oneMore, flushesOf, dueFrom, isFlush, isGood, countsAsGood}
+use Rattle.operations.specs.Operations.{failureOf, oneMore, flushesOf, dueFrom, isFlush, isGood}
 use Rattle.bridge.specs.Bridge.{startStopRows, startStopEffect, startStopSettled, startStopOutcome}
 use Rattle.exchange.specs.Exchange.{nextRows, nextEffect, nextOn, nextSettled, nextOutcome, answerRows, answerOn, answerSettled, answerOutcome}
 use Rattle.cdb.specs.declared.Wanted.{Wanted}
@@ -102,7 +102,7 @@ module _ (P : Call → Unit → Type 0) (u : Unit) (after : Effects P u) where
     answered q e =
         chosen Q (isFlush (dueFrom (u .unsaved) q)) _ _
         (λ f. either Q (isGood reply) _ _ (after .flushes host reply q e f) (failing q (oneMore (flushesOf (q .stage)))))
-        (λ f. either Q (countsAsGood (q .target) reply) _ _ (after .succeeds host reply q e) (failing q (flushesOf (q .stage))))
+        (λ f. either Q (isGood reply) _ _ (after .succeeds host reply q e) (failing q (flushesOf (q .stage))))
 
     replies : (v : Verdict) → Q (answerSettled u host reply v)
     replies Clear = on (slotOf (u .slots) host) refl

@@ -19,16 +19,19 @@ use Rattle.refusals.specs.declared.SenseDue.{SenseDue}
 use Rattle.refusals.specs.declared.SenseDue.the-variants.{NoSense, WithSense}
 use Rattle.refusals.specs.declared.Verdict.{Verdict}
 use Rattle.refusals.specs.declared.Verdict.the-variants.{Clear, Given}
-use Rattle.unit.specs.Units.{withDrive, withPower, withMarks, withSlot, withOut, blank}
+use Rattle.unit.specs.Units.{withDrive, withPower, withMarks, withSlot, withHeld, withOut, blank}
 use Rattle.unit.specs.declared.Slot.the-variants.{Waiting}
+use Rattle.unit.specs.declared.Held.the-variants.{Holds}
 use Rattle.unit.specs.declared.Out.the-variants.{OutFor}
 use Rattle.unit.specs.declared.Unit.{Unit}
-use Rattle.operations.specs.declared.Status.the-variants.{GoodStatus, CheckCondition}
+use Rattle.operations.specs.declared.Status.{Status}
+use Rattle.operations.specs.declared.Status.the-variants.{NoStatus, GoodStatus, CheckCondition}
 use Rattle.operations.specs.declared.Progress.the-variants.{Ended}
 use Rattle.requests.specs.declared.Target.{Target}
 use Rattle.requests.specs.declared.Target.the-variants.{Stop, GoTo}
 use Rattle.requests.specs.declared.Stage.{Stage}
 use Rattle.requests.specs.declared.Stage.the-variants.{Straight, Flushing}
+use Rattle.requests.specs.declared.Failure.the-variants.{CommandSequence, NotReady}
 use Rattle.requests.specs.declared.Reply.{Reply}
 use Rattle.requests.specs.declared.Reply.the-variants.{Good, Bad}
 use Rattle.calls.specs.Calls.{Call, tick, read, write, powerOn, hardReset, softReset, startStop, next, answer, requestSense, transitionsPage, plain, progressed, Outcome, StepFunction}
@@ -57,10 +60,22 @@ abbrev pub endedGood : Unit → Outcome → Type 0
 endedGood u o =
     o ≡ record { said = progressed (Ended (record { status = GoodStatus; sense = NoSense; flushes = 0 })); unit = u; buffer = [] }
 
--- One failed, with its sense and this many flushes.
+-- A stop or a go to failed, without IMMED, with its sense and this many flushes.
 abbrev pub endedFailed : ℕ → Outcome → Type 0
 endedFailed flushes o =
     o .said ≡ progressed (Ended (record { status = CheckCondition; sense = senseDue 0x0B 0x2C 0x00; flushes = flushes }))
+
+-- A start failed, with this status, and left this record.
+abbrev pub startFailed : Status → Unit → Outcome → Type 0
+startFailed status u o =
+    o ≡ record { said = progressed (Ended (record { status = status; sense = senseDue 0x02 0x04 0x02; flushes = 0 })); unit = u; buffer = [] }
+
+-- REQUEST SENSE wrote this sense, as a deferred one.
+abbrev pub tellsDeferred : ℕ → ℕ → ℕ → Outcome → Type 0
+tellsDeferred key asc ascq o =
+    o .buffer
+    ≡ 0x71 ∷ 0x00 ∷ key ∷ 0x00 ∷ 0x00 ∷ 0x00 ∷ 0x00 ∷ 0x0A ∷ 0x00
+    ∷ 0x00 ∷ 0x00 ∷ 0x00 ∷ asc ∷ ascq ∷ 0x00 ∷ 0x00 ∷ 0x00 ∷ 0x00 ∷ []
 
 -- ---- what they start from, and the calls
 
@@ -126,9 +141,9 @@ pub data Fact : Type 0 where
   number-1 number-2 number-3 number-4 number-5 number-6 number-7 number-8 number-9 number-10 : Fact
   recovery-3 timer-3 slot-3 largest-numbers out-epc out-read out-start out-next out-sense none-out written-9 byte-2 modifier-1 : Fact
   by-current not-by-saved unsupported-z : Fact
-  verify-sent verify-bad start-starts start-stays goes-starts goes-stays epc-keeps epc-stays : Fact
+  verify-sent verify-bad verify-stays verify-held verify-told start-starts start-stays start-1h goes-starts goes-stays epc-keeps epc-stays : Fact
   restores-saved timer-16 timer-not-on flag-by-saved flag-off idle-counts idle-stays : Fact
-  fails-told fails-held flushes-255 flushes-stay : Fact
+  fails-told fails-held stop-fails goes-fails flushes-255 flushes-stay : Fact
   page-1A page-51 page-53 page-3 page-out counts-timer counts-deepest counts-use counts-low counts-held counts-cause counts-flush counts-bad counts-fill counts-full : Fact
   resets-keep power-on-counts power-on-held : Fact
 
@@ -186,12 +201,29 @@ factOf unsupported-z = record {
 }
 -- ---- "READ VERIFY 40h, Count 1, LBA 0."
 factOf verify-sent = record { start = fresh; calls = ssu 0 0 1 ∷ next 0 ∷ []; shows = sends 0x40 0 1 0 }
--- "Start counts as good whatever the verify answered (004), and leaves Active, stopped zero."
+-- Document 02, request (ii): "From now a bad verify fails the start: NOT READY, 02/04/02, .. unit Active, stopped mark as before."
 factOf verify-bad = record {
   start = stoppedIn (Low StandbyZ Command);
   calls = runWhole 0x01 Bad;
-  shows = endedGood (onceRunning Active (stoppedIn (Low StandbyZ Command)));
+  shows = startFailed CheckCondition (withPower Active (stoppedIn (Low StandbyZ Command)));
 }
+factOf verify-stays = record {
+  start = runningIn (Low IdleA Command);
+  calls = runWhole 0x01 Bad;
+  shows = startFailed CheckCondition (withPower Active (runningIn (Low IdleA Command)));
+}
+-- "deferred with IMMED 1", in the place of an older failure; of 1h "as start", told by the next REQUEST SENSE.
+factOf verify-held = record {
+  start = withHeld 0 (Holds CommandSequence) (stoppedIn (Low StandbyZ Command));
+  calls = cdbCall 0x1B 1 0 0 0x01 0 ∷ next 0 ∷ answer 0 Bad ∷ [];
+  shows = startFailed NoStatus (withHeld 0 (Holds NotReady) (withPower Active (stoppedIn (Low StandbyZ Command))));
+}
+factOf verify-told = record {
+  start = fresh;
+  calls = cdbCall 0x1B 1 0 0 0x10 0 ∷ next 0 ∷ answer 0 Bad ∷ requestSense 0 (replicate 18 0xFF) ∷ [];
+  shows = tellsDeferred 0x02 0x04 0x02;
+}
+-- A good verify: Active, and "the stopped mark becomes .. zero for any other".
 factOf start-starts = record {
   start = stoppedIn (Low StandbyZ Command);
   calls = runWhole 0x01 Good;
@@ -201,6 +233,11 @@ factOf start-stays = record {
   start = runningIn (Low IdleA Command);
   calls = runWhole 0x01 Good;
   shows = endedGood (onceRunning Active (runningIn (Low IdleA Command)));
+}
+factOf start-1h = record {
+  start = stoppedIn (Low StandbyZ Command);
+  calls = runWhole 0x10 Good;
+  shows = endedGood (onceRunning Active (stoppedIn (Low StandbyZ Command)));
 }
 -- ---- "the stopped mark becomes one for stop, zero for any other": a go to Idle_A with NO_FLUSH, of a stopped unit and of one that runs.
 factOf goes-starts = record {
@@ -250,11 +287,11 @@ factOf fails-told = record { start = fresh; calls = ssu 0 0 0 ∷ next 0 ∷ ans
 factOf fails-held = record {
   start = fresh;
   calls = cdbCall 0x1B 1 0 0 0 0 ∷ next 0 ∷ answer 0 Bad ∷ requestSense 0 (replicate 18 0xFF) ∷ [];
-  shows =
-      λ o. o .buffer
-      ≡ 0x71 ∷ 0x00 ∷ 0x0B ∷ 0x00 ∷ 0x00 ∷ 0x00 ∷ 0x00 ∷ 0x0A ∷ 0x00
-      ∷ 0x00 ∷ 0x00 ∷ 0x00 ∷ 0x2C ∷ 0x00 ∷ 0x00 ∷ 0x00 ∷ 0x00 ∷ 0x00 ∷ [];
+  shows = tellsDeferred 0x0B 0x2C 0x00;
 }
+-- "Bad last command: .. failed": a stop and a go to Idle_A, with NO_FLUSH.
+factOf stop-fails = record { start = fresh; calls = runWhole 0x04 Bad; shows = endedFailed 0 }
+factOf goes-fails = record { start = fresh; calls = runWhole 0x24 Bad; shows = endedFailed 0 }
 -- "the number of flushes answered, good and bad, for that operation, which stays at 255 once reached": a flush, a write, and a bad flush.
 factOf flushes-255 = record {
   start = waitingFor Stop (Flushing 253) (withMarks false true fresh);

@@ -3,7 +3,7 @@ use mathlib.Core.Bool.{Bool, false, cond}
 use Prim.Native.Nat.{ℕ}
 use Rattle.conditions.specs.declared.Power.the-variants.{Active}
 use Rattle.unit.specs.Units.{withPower, rested, withMarks, withSlot, withHeld, withOut}
-use Rattle.operations.specs.Operations.{dueFrom, isFlush, oneMore, flushesOf, reportGood, reportFailed, flushCounted, failureOf, reached, isStop, isGood, countsAsGood}
+use Rattle.operations.specs.Operations.{dueFrom, isFlush, oneMore, flushesOf, reportGood, reportFailed, flushCounted, failureOf, reached, isStop, isGood}
 use Rattle.requests.specs.declared.Request.{Request}
 use Rattle.unit.specs.declared.Slot.the-variants.{Empty, Waiting}
 use Rattle.requests.specs.declared.Failure.{Failure}
@@ -47,10 +47,10 @@ succeeded u host q = record {
 abbrev pub flushAnswered : Unit → ℕ → Request → Reply → Replied
 flushAnswered u host q reply = cond (isGood reply) (flushedWell u host q) (failed u host q (oneMore (flushesOf (q .stage))))
 
--- The answer to the last command.
+-- The answer to the last command. Document 02, request (ii), of a start: "From now a bad verify fails the start: .. deferred with IMMED 1, unit
+-- Active, stopped mark as before."
 abbrev pub lastAnswered : Unit → ℕ → Request → Reply → Replied
-lastAnswered u host q reply =
-    cond (countsAsGood (q .target) reply) (succeeded u host q) (failed u host q (flushesOf (q .stage)))
+lastAnswered u host q reply = cond (isGood reply) (succeeded u host q) (failed u host q (flushesOf (q .stage)))
 
 -- The answer to the command that is out for a waiting operation.
 unfoldable pub answeredFor : Unit → ℕ → Request → Reply → Replied

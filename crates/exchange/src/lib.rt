@@ -157,9 +157,8 @@ fn flush_answered(u: Unit, q: Request, reply: Reply) -> After
 fn last_answered(u: Unit, q: Request, reply: Reply) -> After
     ensures { λ a. ⌜ ((host : ℕ) → left u host a ≡ lastAnswered u host q reply) ⌝ }
 {
-    let target = q.target;
     let stage = q.stage;
-    if operations::counts_as_good(target, reply) {
+    if operations::is_good(reply) {
         succeed(u, q)
     } else {
         fail(u, q, operations::flushes_of(stage))

@@ -1,7 +1,7 @@
 -- The format page, "Set-up": the lines `slot`, `held` and `out` of a block. Assumes nothing.
 use mathlib.Core.Bool.{Bool, cond, not, _&&_}
 use mathlib.Core.List.{List, [], _∷_}
-use Prim.Native.Nat.{ℕ, _+_, _-_}
+use Prim.Native.Nat.{ℕ, _-_}
 use lib.Dec.{eqb, ltb}
 use Rattle.asked.specs.declared.Line.{Line}
 use Rattle.asked.specs.declared.Line.the-variants.{Sets}
@@ -9,7 +9,8 @@ use Rattle.asked.specs.declared.Part.the-variants.{HasSlot, HasHeld, HasOut}
 use Rattle.conditions.specs.Conditions.{conditionAt}
 use Rattle.senses.specs.declared.Sense.{Sense}
 use Rattle.requests.specs.Requests.{failureSense}
-use Rattle.requests.specs.declared.Failure.the-variants.{CommandSequence}
+use Rattle.requests.specs.declared.Failure.{Failure}
+use Rattle.requests.specs.declared.Failure.the-variants.{CommandSequence, NotReady}
 use Rattle.unit.specs.declared.Held.the-variants.{Nothing, Holds}
 use Rattle.unit.specs.declared.Out.the-variants.{NoneOut, OutFor}
 use Rattle.unit.specs.declared.Slot.the-variants.{Empty, Waiting}
@@ -69,23 +70,26 @@ slotLine line =
 
 -- ---- held H -, held H KK AA QQ
 
--- "a held sense that is no failure's" is a bad line.
-abbrev pub spells : Sense → ℕ → List ℕ → Bool
-spells s k line =
-    (byteIn k line .good && byteIn (k + 1) line .good && byteIn (k + 2) line .good)
-    && eqb (byteIn k line .value) (s .key)
-    && eqb (byteIn (k + 1) line .value) (s .asc)
-    && eqb (byteIn (k + 2) line .value) (s .ascq)
+-- The line's KK AA QQ are this sense.
+abbrev pub spells : Sense → List ℕ → Bool
+spells s line =
+    (byteIn 2 line .good && byteIn 3 line .good && byteIn 4 line .good)
+    && eqb (byteIn 2 line .value) (s .key)
+    && eqb (byteIn 3 line .value) (s .asc)
+    && eqb (byteIn 4 line .value) (s .ascq)
 
-abbrev pub spellsFailure : ℕ → List ℕ → Bool
-spellsFailure k line = spells (failureSense CommandSequence) k line
+-- The failure that a line can tell of: "`held H 02 04 02` is a failure's sense" (document 02, request (ii)); any other line can tell of the other
+-- alone, and `heldLine` asks whether it does.
+abbrev pub failureIn : List ℕ → Failure
+failureIn line = cond (spells (failureSense NotReady) line) NotReady CommandSequence
 
+-- "a held sense that is no failure's" is a bad line: the line spells the sense of the failure that it sets.
 unfoldable pub heldLine : List ℕ → Line
 heldLine line =
     cond (isNone 2 line)
     (offered (hasWords 3 line && ownHostIn line .good) (Sets (HasHeld (ownHostIn line .value) Nothing)))
-    (offered (hasWords 5 line && ownHostIn line .good && spellsFailure 2 line)
-    (Sets (HasHeld (ownHostIn line .value) (Holds CommandSequence))))
+    (offered (hasWords 5 line && ownHostIn line .good && spells (failureSense (failureIn line)) line)
+    (Sets (HasHeld (ownHostIn line .value) (Holds (failureIn line)))))
 
 -- ---- out -, out H
 

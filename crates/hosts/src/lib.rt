@@ -1,6 +1,7 @@
 // The lines of a set-up block that are the hosts', read: `slot`, `held` and `out`, each as the part of a record that it sets.
 ghost use mathlib.Core.Path.{_≡_};
-ghost use Rattle.hosts.specs.Hosts.{isNone, targetFrom, stageFrom, isStage, requestIn, spellsFailure, slotLine, heldLine, outLine};
+ghost use Rattle.hosts.specs.Hosts.{isNone, targetFrom, stageFrom, isStage, requestIn, spells, failureIn, slotLine, heldLine, outLine};
+ghost use Rattle.requests.specs.Requests.{failureSense};
 use asked::Line;
 use asked::Part;
 use requests::Failure;
@@ -90,18 +91,30 @@ pub fn slot_line(line: &[u8]) -> Line
     )
 }
 
-// "a held sense that is no failure's" is a bad line.
-fn is_failure(line: &[u8]) -> bool
-    ensures { λ r. ⌜ r ≡ spellsFailure 2 (now (line .entry)) ⌝ }
+// Whether a line's words are a failure's sense.
+fn spells_failure(line: &[u8], f: Failure) -> bool
+    ensures { λ r. ⌜ r ≡ spells (failureSense f) (now (line .entry)) ⌝ }
 {
     let key = words::byte_at(line, 2);
     let asc = words::byte_at(line, 3);
     let ascq = words::byte_at(line, 4);
-    let sense = requests::failure_sense(Failure::CommandSequence);
+    let sense = requests::failure_sense(f);
     let good = key.good & asc.good & ascq.good;
     good & (key.value == sense.key) & (asc.value == sense.asc) & (ascq.value == sense.ascq)
 }
 
+// The failure that a line can tell of; `held_line` asks whether it does.
+fn failure_in(line: &[u8]) -> Failure
+    ensures { λ r. ⌜ r ≡ failureIn (now (line .entry)) ⌝ }
+{
+    if spells_failure(line, Failure::NotReady) {
+        Failure::NotReady
+    } else {
+        Failure::CommandSequence
+    }
+}
+
+// "a held sense that is no failure's" is a bad line.
 pub fn held_line(line: &[u8]) -> Line
     ensures { λ r. ⌜ r ≡ heldLine (now (line .entry)) ⌝ }
 {
@@ -113,10 +126,10 @@ pub fn held_line(line: &[u8]) -> Line
             Line::Sets(Part::HasHeld(host.value, Held::Nothing)),
         );
     }
-    let held = Held::Holds(Failure::CommandSequence);
+    let failure = failure_in(line);
     asked::offered(
-        (n == 5) & host.good & is_failure(line),
-        Line::Sets(Part::HasHeld(host.value, held)),
+        (n == 5) & host.good & spells_failure(line, failure),
+        Line::Sets(Part::HasHeld(host.value, Held::Holds(failure))),
     )
 }
 

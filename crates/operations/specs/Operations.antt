@@ -21,7 +21,7 @@ use Rattle.requests.specs.declared.Stage.{Stage}
 use Rattle.requests.specs.declared.Stage.the-variants.{Straight, Flushing}
 use Rattle.requests.specs.declared.Request.{Request}
 use Rattle.requests.specs.declared.Failure.{Failure}
-use Rattle.requests.specs.declared.Failure.the-variants.{CommandSequence}
+use Rattle.requests.specs.declared.Failure.the-variants.{CommandSequence, NotReady}
 use Rattle.refusals.specs.declared.SenseDue.the-variants.{NoSense, WithSense}
 use Rattle.operations.specs.declared.Due.{Due}
 use Rattle.operations.specs.declared.Due.the-variants.{Flush, StandbyImmediate, ReadVerify, EpcGoTo}
@@ -97,16 +97,11 @@ abbrev pub isGood : Reply → Bool
 isGood Good = true
 isGood Bad = false
 
--- "Start counts as good whatever the verify answered (004)".
-abbrev pub countsAsGood : Target → Reply → Bool
-countsAsGood Stop reply = isGood reply
-countsAsGood Start reply = true
-countsAsGood (GoTo c) reply = isGood reply
-
--- What a failed operation says: "Failure is ABORTED COMMAND, COMMAND SEQUENCE ERROR", whatever it was to do.
+-- What a failed operation says: "Failure is ABORTED COMMAND, COMMAND SEQUENCE ERROR". Document 02, request (ii): "a bad verify fails the start:
+-- NOT READY". A start's one command is its verify.
 abbrev pub failureOf : Target → Failure
 failureOf Stop = CommandSequence
-failureOf Start = CommandSequence
+failureOf Start = NotReady
 failureOf (GoTo c) = CommandSequence
 
 -- A flush that is answered is counted.
@@ -117,7 +112,7 @@ flushCounted q = record { target = q .target; immed = q .immed; stage = Flushing
 abbrev pub parkedIn : List Record → Condition
 parkedIn rs = cond (getD rs (placeOf StandbyY) unsupported .current .enabled) StandbyY StandbyZ
 
--- "Good last command: the named condition, cause command;" a start "leaves Active".
+-- "Good last command: the named condition, cause command;" a start's is Active (004, note c; 002, "01h - ACTIVE").
 abbrev pub reached : List Record → Target → Power
 reached rs Stop = Low (parkedIn rs) Command
 reached rs Start = Active

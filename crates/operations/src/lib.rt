@@ -1,7 +1,7 @@
 // An operation's commands, the answers that hosts and the drive give about it, and its end report. No unit is needed.
 ghost use mathlib.Core.Bool.{cond};
 ghost use mathlib.Core.Path.{_≡_};
-ghost use Rattle.operations.specs.Operations.{acceptedAs, registersOf, lastOf, dueAt, dueFrom, isFlush, oneMore, flushesOf, reportGood, reportFailed, parkedIn, reached, isStop, isGood, countsAsGood, failureOf, flushCounted};
+ghost use Rattle.operations.specs.Operations.{acceptedAs, registersOf, lastOf, dueAt, dueFrom, isFlush, oneMore, flushesOf, reportGood, reportFailed, parkedIn, reached, isStop, isGood, failureOf, flushCounted};
 ghost use Rattle.operations.specs.declared.Status.the-variants.{NoStatus};
 use conditions::Cause;
 use conditions::Condition;
@@ -191,24 +191,13 @@ pub fn is_good(reply: Reply) -> bool
     }
 }
 
-// A start counts as good whatever the verify answered (05-226r3).
-pub fn counts_as_good(t: Target, reply: Reply) -> bool
-    ensures { λ b. ⌜ b ≡ countsAsGood t reply ⌝ }
-{
-    match t {
-        Target::Stop => is_good(reply),
-        Target::Start => true,
-        Target::GoTo(_) => is_good(reply),
-    }
-}
-
-// What a failed operation says, by what it was to do.
+// What a failed operation says, by what it was to do: a spindle that does not turn is not ready.
 pub fn failure_of(t: Target) -> Failure
     ensures { λ f. ⌜ f ≡ failureOf t ⌝ }
 {
     match t {
         Target::Stop => Failure::CommandSequence,
-        Target::Start => Failure::CommandSequence,
+        Target::Start => Failure::NotReady,
         Target::GoTo(_) => Failure::CommandSequence,
     }
 }

@@ -3,6 +3,8 @@ use mathlib.Core.Path.{_≡_, refl}
 use mathlib.Core.Bool.{Bool, true, false}
 use mathlib.Core.List.{List, [], _∷_, map}
 use Prim.Native.Nat.{ℕ}
+use lib.ListN.{replicate}
+use Rattle.words.specs.Codes.{codes}
 use Rattle.drive.specs.Records.{unsupported}
 use Rattle.conditions.specs.declared.Cause.the-variants.{Timer, Command}
 use Rattle.conditions.specs.declared.Condition.the-variants.{IdleA, IdleB, StandbyY, StandbyZ}
@@ -10,7 +12,7 @@ use Rattle.conditions.specs.declared.Power.{Power}
 use Rattle.conditions.specs.declared.Power.the-variants.{Active, Low}
 use Rattle.drive.specs.declared.Record.{Record}
 use Rattle.drive.specs.declared.Setting.{Setting}
-use Rattle.requests.specs.declared.Failure.the-variants.{CommandSequence}
+use Rattle.requests.specs.declared.Failure.the-variants.{CommandSequence, NotReady}
 use Rattle.unit.specs.declared.Held.the-variants.{Nothing, Holds}
 use Rattle.unit.specs.declared.Out.the-variants.{NoneOut, OutFor}
 use Rattle.unit.specs.declared.Slot.the-variants.{Empty, Waiting}
@@ -23,7 +25,7 @@ use Rattle.words.specs.Numbers.{areDigits, valueAfter, isNumber, wordNumber, wo
 use Rattle.words.specs.Words.{pieces, nonempty, words, wordAt, placeIn}
 use Rattle.digits.specs.Numerals.{numeral, pairs}
 use Rattle.asked.specs.declared.Entries.{Entries}
-use Rattle.asked.specs.declared.Line.the-variants.{Sets}
+use Rattle.asked.specs.declared.Line.the-variants.{Sets, Wrong}
 use Rattle.asked.specs.declared.Part.{Part}
 use Rattle.asked.specs.declared.Part.the-variants.{Settings, Stands, HasSlot, HasHeld, HasOut, HasCounts}
 use Rattle.script.specs.Lines.{lineOfWords, lineOfText}
@@ -68,6 +70,7 @@ samples =
     ∷ waits 2 Stop true (Flushing 0)
     ∷ waits 3 (GoTo StandbyZ) true (Flushing 0xFF)
     ∷ HasHeld 0 Nothing
+    ∷ HasHeld 2 (Holds NotReady)
     ∷ HasHeld 3 (Holds CommandSequence)
     ∷ HasOut NoneOut
     ∷ HasOut (OutFor 0xFF)
@@ -85,3 +88,24 @@ pub read-back : map (λ p. lineOfText (partText p)) samples ≡ map Sets samples
 unfolding numeral pairs partText beforeReturn pieces nonempty words wordAt placeIn areDigits valueAfter isNumber wordNumber wordFlag
     lineOfText lineOfWords conditionLine stateLine slotLine heldLine outLine countsLine
 read-back = refl
+
+-- Lines that spell no failure's sense: parts of the one with parts of the other, number 6's sense, a word too few and one too many, a host above 3.
+abbrev misses : List (List ℕ)
+misses =
+    codes "held 3 02 04 00"
+    ∷ codes "held 3 02 2C 00"
+    ∷ codes "held 3 02 2C 02"
+    ∷ codes "held 3 0B 04 00"
+    ∷ codes "held 3 0B 04 02"
+    ∷ codes "held 3 0B 2C 02"
+    ∷ codes "held 3 02 04 07"
+    ∷ codes "held 3 02 04"
+    ∷ codes "held 3 02 04 02 00"
+    ∷ codes "held 3 - 02"
+    ∷ codes "held 4 02 04 02"
+    ∷ []
+
+pub none-read : map lineOfText misses ≡ replicate 11 Wrong
+unfolding numeral pairs partText beforeReturn pieces nonempty words wordAt placeIn areDigits valueAfter isNumber wordNumber wordFlag
+    lineOfText lineOfWords conditionLine stateLine slotLine heldLine outLine countsLine
+none-read = refl

@@ -1,5 +1,5 @@
 -- What an accepted START STOP UNIT asks for, when it is one that START STOP accepts, and the sense of one that fails: document 01, "Conditions and
--- settings" (well formed) and "START STOP UNIT".
+-- settings" (well formed) and "START STOP UNIT"; document 02, request (ii).
 use mathlib.Core.Bool.{Bool, true, false}
 use mathlib.Core.List.{List}
 use lib.ListN.{getD}
@@ -13,7 +13,7 @@ use Rattle.requests.specs.declared.Target.the-variants.{Stop, Start, GoT
 use Rattle.requests.specs.declared.Stage.{Stage}
 use Rattle.requests.specs.declared.Stage.the-variants.{Straight, Flushing}
 use Rattle.requests.specs.declared.Failure.{Failure}
-use Rattle.requests.specs.declared.Failure.the-variants.{CommandSequence}
+use Rattle.requests.specs.declared.Failure.the-variants.{CommandSequence, NotReady}
 
 -- "The condition must be supported."
 abbrev pub supportedIn : List Record → Condition → Bool
@@ -27,6 +27,7 @@ requestWellFormed rs Start Straight = true
 requestWellFormed rs Start (Flushing n) = false
 requestWellFormed rs (GoTo c) stage = supportedIn rs c
 
--- "Failure is ABORTED COMMAND, COMMAND SEQUENCE ERROR (0B/2C/00)."
+-- "Failure is ABORTED COMMAND, COMMAND SEQUENCE ERROR (0B/2C/00)." Document 02, request (ii): "NOT READY, 02/04/02".
 abbrev pub failureSense : Failure → Sense
 failureSense CommandSequence = record { key = 0x0B; asc = 0x2C; ascq = 0x00 }
+failureSense NotReady = record { key = 0x02; asc = 0x04; ascq = 0x02 }

@@ -34,6 +34,7 @@ pub enum Reply {
 // Why an operation failed.
 pub enum Failure {
     CommandSequence,
+    NotReady,
 }
 
 // A condition's support, as its record has it. Fixed places: no copy of the records is made to look into.
@@ -72,6 +73,11 @@ pub fn failure_sense(f: Failure) -> Sense
             key: 0x0B,
             asc: 0x2C,
             ascq: 0x00,
+        },
+        Failure::NotReady => Sense {
+            key: 0x02,
+            asc: 0x04,
+            ascq: 0x02,
         },
     }
 }

@@ -36,11 +36,11 @@ pub record Line : Type 0 where
   pub said : Said
 
 infix 68 _says_
-abbrev _says_ : Call → Said → Line
+abbrev pub _says_ : Call → Said → Line
 c says said = record { call = c; said = said }
 
 -- A line of a history.
-abbrev lineOf : Event → Line
+abbrev pub lineOf : Event → Line
 lineOf e = e .call says e .came .said
 
 -- ---- the unit, and what the hosts ask for

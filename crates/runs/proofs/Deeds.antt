@@ -30,7 +30,7 @@ use Rattle.unit.specs.declared.Held.the-variants.{Nothing}
 use Rattle.unit.specs.declared.Out.the-variants.{NoneOut}
 use Rattle.unit.specs.declared.Unit.{Unit}
 use Rattle.cdb.specs.Cdb.{wanted, requestFor}
-use Rattle.operations.specs.Operations.{failureOf, registersOf, oneMore, flushesOf, dueFrom, isFlush, countsAsGood, reportGood, reportFailed}
+use Rattle.operations.specs.Operations.{failureOf, registersOf, oneMore, flushesOf, dueFrom, isFlush, reportGood, reportFailed}
 use Rattle.exchange.specs.Answered.{flushedWell, failed, succeeded, flushAnswered, lastAnswered, answeredFor}
 use Rattle.bridge.specs.Bridge.{startStopRows, startStopEffect}
 use Rattle.exchange.specs.Exchange.{nextRows, nextEffect, nextSettled, nextOutcome, answerRows, answerSettled, answerOutcome}
@@ -69,12 +69,10 @@ pub record Cases (P : Deed → Unit → Type 0) (u : Unit) : Type 0 where
   pub flush-failed : (host : ℕ) (q : Request) → Taken u host q → isFlush (dueFrom (u .unsaved) q) ≡ true
       → P (ends host Bad (reportFailed (q .immed) (failureOf (q .target)) (oneMore (flushesOf (q .stage)))))
       (failed u host q (oneMore (flushesOf (q .stage))) .unit)
-  pub last-succeeded : (host : ℕ) (reply : Reply) (q : Request) → Taken u host q → isFlush (dueFrom (u .unsaved) q) ≡ false
-      → countsAsGood (q .target) reply ≡ true
-      → P (ends host reply (reportGood (q .immed) (flushesOf (q .stage)))) (succeeded u host q .unit)
-  pub last-failed : (host : ℕ) (reply : Reply) (q : Request) → Taken u host q → isFlush (dueFrom (u .unsaved) q) ≡ false
-      → countsAsGood (q .target) reply ≡ false
-      → P (ends host reply (reportFailed (q .immed) (failureOf (q .target)) (flushesOf (q .stage))))
+  pub last-succeeded : (host : ℕ) (q : Request) → Taken u host q → isFlush (dueFrom (u .unsaved) q) ≡ false
+      → P (ends host Good (reportGood (q .immed) (flushesOf (q .stage)))) (succeeded u host q .unit)
+  pub last-failed : (host : ℕ) (q : Request) → Taken u host q → isFlush (dueFrom (u .unsaved) q) ≡ false
+      → P (ends host Bad (reportFailed (q .immed) (failureOf (q .target)) (flushesOf (q .stage))))
       (failed u host q (flushesOf (q .stage)) .unit)
 
 -- or another call, accepted: one row for each.
@@ -187,14 +185,14 @@ module _ (P : Deed → Unit → Type 0) (u : Unit) (cases : Cases P u) (others :
         to-flush f Good = cases .flushed host q taken f
         to-flush f Bad = cases .flush-failed host q taken f
 
-        to-last : isFlush (dueFrom (u .unsaved) q) ≡ false → (good : Bool) → countsAsGood (q .target) reply ≡ good
-            → Q (cond good (succeeded u host q) (failed u host q (flushesOf (q .stage))))
-        to-last f true g = cases .last-succeeded host reply q taken f g
-        to-last f false g = cases .last-failed host reply q taken f g
+        to-last : isFlush (dueFrom (u .unsaved) q) ≡ false → (reply : Reply)
+            → P (answering host reply (progressed (lastAnswered u host q reply .answer))) (lastAnswered u host q reply .unit)
+        to-last f Good = cases .last-succeeded host q taken f
+        to-last f Bad = cases .last-failed host q taken f
 
         on : (b : Bool) → isFlush (dueFrom (u .unsaved) q) ≡ b → Q (cond b (flushAnswered u host q reply) (lastAnswered u host q reply))
         on true f = to-flush f reply
-        on false f = to-last f (countsAsGood (q .target) reply) refl
+        on false f = to-last f reply
 
     answered : P (answering host reply (outcome u (answer host reply) .said)) (step u (answer host reply))
     unfolding answerOutcome
@@ -282,11 +280,10 @@ pub record Endings (E : ℕ → Reply → Report → Unit → Type 0) (u : Unit)
   pub flush-failed : (host : ℕ) (q : Request) → Taken u host q → isFlush (dueFrom (u .unsaved) q) ≡ true
       → let n = oneMore (flushesOf (q .stage)) in
       E host Bad (reportFailed (q .immed) (failureOf (q .target)) n) (failed u host q n .unit)
-  pub last-succeeded : (host : ℕ) (reply : Reply) (q : Request) → Taken u host q → isFlush (dueFrom (u .unsaved) q) ≡ false
-      → countsAsGood (q .target) reply ≡ true → E host reply (reportGood (q .immed) (flushesOf (q .stage))) (succeeded u host q .unit)
-  pub last-failed : (host : ℕ) (reply : Reply) (q : Request) → Taken u host q → isFlush (dueFrom (u .unsaved) q) ≡ false
-      → countsAsGood (q .target) reply ≡ false → let n = flushesOf (q .stage) in
-      E host reply (reportFailed (q .immed) (failureOf (q .target)) n) (failed u host q n .unit)
+  pub last-succeeded : (host : ℕ) (q : Request) → Taken u host q → isFlush (dueFrom (u .unsaved) q) ≡ false
+      → E host Good (reportGood (q .immed) (flushesOf (q .stage))) (succeeded u host q .unit)
+  pub last-failed : (host : ℕ) (q : Request) → Taken u host q → isFlush (dueFrom (u .unsaved) q) ≡ false → let n = flushesOf (q .stage) in
+      E host Bad (reportFailed (q .immed) (failureOf (q .target)) n) (failed u host q n .unit)
 
 -- A fact of a command that is handed out holds of what is due to a waiting operation.
 abbrev pub Handings : (ℕ → Registers → Type 0) → Unit → Type 0
@@ -312,8 +309,8 @@ module _ (S : ℕ → Registers → Type 0) (E : ℕ → Reply → Report → Un
 pub when-sent : (S : ℕ → Registers → Type 0) (u : Unit) → Handings S u → (host : ℕ) (q : Registers) → deedAt u (next host) ≡ handsOut host q → S host q
 when-sent S u handings host q e = rw e at (telling S (λ host reply report v. Prim.Unit {0}) u handings (record {
   flush-failed = λ host q taken f. tt;
-  last-succeeded = λ host reply q taken f g. tt;
-  last-failed = λ host reply q taken f g. tt;
+  last-succeeded = λ host q taken f. tt;
+  last-failed = λ host q taken f. tt;
 }) (next host))
 
 pub when-ended : (E : ℕ → Reply → Report → Unit → Type 0) (u : Unit) → Endings E u → (host : ℕ) (reply : Reply) (report : Report)

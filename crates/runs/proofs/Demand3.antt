@@ -1,13 +1,14 @@
 -- Demand 3: call by call the serial record goes beside the real one (Same, Operations); where nothing waits at the end, all that is compared is the same.
 -- The serial list's own deeds are gathered on the way.
 use mathlib.Core.Path.{_≡_, refl, sym, ap, _∙_}
-use mathlib.Core.Bool.{true, false, not, _||_}
+use mathlib.Core.Bool.{true, not, _||_}
 use mathlib.Core.List.{List, [], _∷_, _++_, reverseAux, append-nil, append-assoc}
 use mathlib.Core.Logic.{inl}
 use Prim.Native.Nat.{ℕ}
 use Rattle.rows.proofs.Places.{and-left, and-right}
 use Rattle.unit.specs.Units.{wellFormed}
 use Rattle.unit.specs.declared.Unit.{Unit}
+use Rattle.requests.specs.declared.Reply.the-variants.{Good, Bad}
 use Rattle.operations.specs.Operations.{oneMore, flushesOf}
 use Rattle.calls.specs.Calls.{Call, outcome, step, run, history}
 use Rattle.calls.specs.Described.{isReset}
@@ -33,8 +34,8 @@ module _ (past : List Deed) (u v : Unit) (known : Known past u) (same : Same u v
     asked = λ host q clear. asks-on past u v known same host q;
     flushed = λ host q taken f. flushes-on past u v known same host q taken;
     flush-failed = λ host q taken f. flush-fails-on past u v known same host q taken f (oneMore (flushesOf (q .stage))) _;
-    last-succeeded = λ host reply q taken f g. last-on past u v known same host q taken f reply true g _;
-    last-failed = λ host reply q taken f g. last-on past u v known same host q taken f reply false g _;
+    last-succeeded = λ host q taken f. last-on past u v known same host q taken f Good _;
+    last-failed = λ host q taken f. last-on past u v known same host q taken f Bad _;
   }) (record {
     epc = epc-on past u v (known .0) same;
     ticks = ticks-on past u v (known .0) same;

@@ -109,11 +109,10 @@ module _ (k : ℕ) (cdb : List ℕ) where
           on true e = ended (refl, e, refl) q (own e) refl
           on false e = still (ends host reply report) (refl, e, refl)
 
-      failed-fares : (reply : Reply) (n : ℕ)
-          → Fared (ends host reply (reportFailed (q .immed) (failureOf (q .target)) n)) (failed u host q n .unit)
-      failed-fares reply n =
+      failed-fares : (n : ℕ) → Fared (ends host Bad (reportFailed (q .immed) (failureOf (q .target)) n)) (failed u host q n .unit)
+      failed-fares n =
           let report = reportFailed (q .immed) (failureOf (q .target)) n in
-          either (Fared (ends host reply report)) (q .immed) _ _ (ended-fares reply report) (ended-fares reply report)
+          either (Fared (ends host Bad report)) (q .immed) _ _ (ended-fares Bad report) (ended-fares Bad report)
 
     other-fares : (c : Call) (v : Unit) → Leaves u c v → Fared (does c) v
     other-fares c v (sweeps power-on is slots none mark) = cleared (refl, refl, is .0) (rw slots (none-waits k))
@@ -127,9 +126,9 @@ module _ (k : ℕ) (cdb : List ℕ) where
       begun = λ host given t clear wants. begun-fares host given t clear;
       asked = λ host q clear waits. still _ (refl, refl, refl);
       flushed = λ host q taken f. flushed-fares host q taken;
-      flush-failed = λ host q taken f. failed-fares host q taken Bad (oneMore (flushesOf (q .stage)));
-      last-succeeded = λ host reply q taken f g. ended-fares host q taken reply (reportGood (q .immed) (flushesOf (q .stage)));
-      last-failed = λ host reply q taken f g. failed-fares host q taken reply (flushesOf (q .stage));
+      flush-failed = λ host q taken f. failed-fares host q taken (oneMore (flushesOf (q .stage)));
+      last-succeeded = λ host q taken f. ended-fares host q taken Good (reportGood (q .immed) (flushesOf (q .stage)));
+      last-failed = λ host q taken f. failed-fares host q taken (flushesOf (q .stage));
     }) (all-others Fared u (λ c v did. other-fares c v (did .leaves)))
 
   -- ---- one call, then the deeds that follow

@@ -59,8 +59,8 @@ module _ (past : List Deed) (u : Unit) (known : Known past u) where
       → report .flushes ≡ heldAt255 (answeredNow host)
   report-counts = when-ended (λ host reply report v. report .flushes ≡ heldAt255 (answeredNow host)) u (record {
     flush-failed = flush-counts;
-    last-succeeded = λ host reply q taken f g. last-counts host q taken f;
-    last-failed = λ host reply q taken f g. last-counts host q taken f;
+    last-succeeded = λ host q taken f. last-counts host q taken f;
+    last-failed = λ host q taken f. last-counts host q taken f;
   })
 
 -- ---- over any run

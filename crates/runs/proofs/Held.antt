@@ -25,7 +25,6 @@ use Rattle.unit.specs.declared.Unit.{Unit}
 use Rattle.cdb.specs.Cdb.{wanted}
 use Rattle.operations.specs.Operations.{failureOf, oneMore, flushesOf, reportFailed}
 use Rattle.exchange.specs.Answered.{failed}
-use Rattle.requests.specs.declared.Reply.{Reply}
 use Rattle.requests.specs.declared.Reply.the-variants.{Bad}
 use Rattle.calls.specs.Calls.{Call, startStop, answer, requestSense, outcome, step, run, history}
 use Rattle.calls.specs.Described.{isReset}
@@ -34,7 +33,7 @@ use Rattle.calls.proofs.Numbers.{own-told, acceptance-does}
 use Rattle.unit.proofs.Hosts.{own-held, other-held}
 use Rattle.calls.proofs.WellFormed.{well-formed-kept, run-well-formed}
 use Rattle.runs.specs.Deeds.{Deed, ends, does, wasAborted, wasRefused, another, deeds}
-use Rattle.runs.specs.Reports.{failureFor, keepsHeld, HeldTold, FailureTold}
+use Rattle.runs.specs.Reports.{senseFor, keepsHeld, HeldTold, FailureTold}
 use Rattle.runs.proofs.Deeds.{deedAt, by-deed, all-others}
 use Rattle.runs.proofs.HeldSenses.{held-inside, heldAfter, failed-held}
 use Rattle.runs.proofs.Reports.{closes, end-reported}
@@ -51,11 +50,11 @@ module _ (k : ℕ) where
     spared host h other = other-held host k (λ same. eqb-false host k other (sym same)) (u .held) h
 
     -- A failure that is held is another host's.
-    failed-kept : (host : ℕ) (reply : Reply) (q : Request) (n : ℕ)
-        → Kept (ends host reply (reportFailed (q .immed) (failureOf (q .target)) n)) (failed u host q n .unit)
-    failed-kept host reply q n h = ap (λ (l : List HostHeld). heldOf l k) (failed-held u host q n) ∙ on (q .immed) h
+    failed-kept : (host : ℕ) (q : Request) (n : ℕ)
+        → Kept (ends host Bad (reportFailed (q .immed) (failureOf (q .target)) n)) (failed u host q n .unit)
+    failed-kept host q n h = ap (λ (l : List HostHeld). heldOf l k) (failed-held u host q n) ∙ on (q .immed) h
       where
-        on : (b : Bool) → keepsHeld k (ends host reply (reportFailed b (failureOf (q .target)) n)) ≡ true
+        on : (b : Bool) → keepsHeld k (ends host Bad (reportFailed b (failureOf (q .target)) n)) ≡ true
             → heldOf (heldAfter (u .held) host b (failureOf (q .target))) k ≡ heldOf (u .held) k
         on true h = spared host (Holds (failureOf (q .target))) (apart (eqb host k) h)
           where
@@ -71,9 +70,9 @@ module _ (k : ℕ) where
       begun = λ host cdb t clear wants h. refl;
       asked = λ host q clear waits h. refl;
       flushed = λ host q taken f h. refl;
-      flush-failed = λ host q taken f. failed-kept host Bad q (oneMore (flushesOf (q .stage)));
-      last-succeeded = λ host reply q taken f g h. refl;
-      last-failed = λ host reply q taken f g. failed-kept host reply q (flushesOf (q .stage));
+      flush-failed = λ host q taken f. failed-kept host q (oneMore (flushesOf (q .stage)));
+      last-succeeded = λ host q taken f h. refl;
+      last-failed = λ host q taken f. failed-kept host q (flushesOf (q .stage));
     }) (all-others Kept u (λ c v did h.
         did .held k (not-true (isReset c) (and-left (not (isReset c)) _ h)) (not-true _ (and-right (not (isReset c)) _ h))))
 
@@ -118,8 +117,8 @@ held-told u host reply report s cs buffer fine ends-here none sense keeps accept
 
 -- A failure with IMMED is what the host's next accepted REQUEST SENSE gives, unless a newer failure or a reset came between.
 pub failure-told : FailureTold outcome
-failure-told u host cdb cs reply report later buffer fine accepts immediate bad unended over keeps told =
-    let says = end-reported u host cdb cs reply report fine accepts unended over in
+failure-told u host cdb cs report later buffer fine accepts immediate unended over keeps told =
+    let says = end-reported u host cdb cs Bad report fine accepts unended over in
     let v = step u (startStop host cdb) in
-    held-told (run v cs) host reply report (failureSense (failureFor (wanted cdb))) later buffer
-    (run-well-formed v cs (well-formed-kept u (startStop host cdb) fine)) over (says .status ∙ rw immediate) (says .sense ∙ rw bad) keeps told .0
+    held-told (run v cs) host Bad report (senseFor (wanted cdb)) later buffer
+    (run-well-formed v cs (well-formed-kept u (startStop host cdb) fine)) over (says .status ∙ rw immediate) (says .sense) keeps told .0

@@ -22,6 +22,6 @@ idle-restarts u = by-deed Restarts u (record {
   asked = λ host q clear waits h. refl;
   flushed = λ host q taken f h. refl;
   flush-failed = λ host q taken f h. either (λ (v : Unit). v .drive .idle .0 ≡ 0) (q .immed) _ _ refl refl;
-  last-succeeded = λ host reply q taken f g h. refl;
-  last-failed = λ host reply q taken f g h. either (λ (v : Unit). v .drive .idle .0 ≡ 0) (q .immed) _ _ refl refl;
+  last-succeeded = λ host q taken f h. refl;
+  last-failed = λ host q taken f h. either (λ (v : Unit). v .drive .idle .0 ≡ 0) (q .immed) _ _ refl refl;
 }) (all-others Restarts u (λ c v did h. did .idle (not-true (isTickOrLog c) h)))

@@ -246,12 +246,12 @@ module _ (past : List Deed) (u : Unit) (known : Known past u) where
       noted k p true e w = empty-waits p w
       noted k p false e w = rw e (ops k p w)
 
-  failed-stays : (host : ℕ) (reply : Reply) (q : Request) (n : ℕ) → Taken u host q
-      → Stay (ends host reply (reportFailed (q .immed) (failureOf (q .target)) n)) (failed u host q n .unit)
-  failed-stays host reply q n taken =
+  failed-stays : (host : ℕ) (q : Request) (n : ℕ) → Taken u host q
+      → Stay (ends host Bad (reportFailed (q .immed) (failureOf (q .target)) n)) (failed u host q n .unit)
+  failed-stays host q n taken =
       let report = reportFailed (q .immed) (failureOf (q .target)) n in
-      let over = ended-stays host reply report q (u .unsaved) taken in
-      either (Stay (ends host reply report)) (q .immed) _ _ over over
+      let over = ended-stays host Bad report q (u .unsaved) taken in
+      either (Stay (ends host Bad report)) (q .immed) _ _ over over
 
   cleared : (d : Deed) (unsaved : Bool)
       → Operations (d ∷ past) (replicate 4 emptySlot) × OutNoted (d ∷ past) (replicate 4 emptySlot) unsaved NoneOut
@@ -270,9 +270,9 @@ module _ (past : List Deed) (u : Unit) (known : Known past u) where
     begun = begun-stays;
     asked = λ host q clear. asked-stays host q;
     flushed = flushed-stays;
-    flush-failed = λ host q taken f. failed-stays host Bad q (oneMore (flushesOf (q .stage))) taken;
-    last-succeeded = λ host reply q taken f g. ended-stays host reply (reportGood (q .immed) (flushesOf (q .stage))) q (u .unsaved) taken;
-    last-failed = λ host reply q taken f g. failed-stays host reply q (flushesOf (q .stage)) taken;
+    flush-failed = λ host q taken f. failed-stays host q (oneMore (flushesOf (q .stage))) taken;
+    last-succeeded = λ host q taken f. ended-stays host Good (reportGood (q .immed) (flushesOf (q .stage))) q (u .unsaved) taken;
+    last-failed = λ host q taken f. failed-stays host q (flushesOf (q .stage)) taken;
   }) (all-others Stay u (λ c v did. other-stays c v (did .leaves)))
 
 -- What is known of the record stays known, whatever the call.

@@ -19,7 +19,9 @@ pub mod Held
 pub mod Idle
 pub mod Computed
 pub mod Afternoon
+pub mod Morning
 pub mod Outside
 pub mod WrongPrograms
 pub mod WrongSteps
 pub mod WrongCounts
+pub mod WrongStarts

@@ -1,7 +1,7 @@
 -- Demand 3 at the calls of an operation. Until its last answer nothing stands in the serial run, and only the unsaved mark may come apart. At its last
 -- answer it is run whole there: both runs then have the same answer to the same command, which sets condition, idle count, marks and held sense alike.
 use mathlib.Core.Path.{_≡_, refl, sym, ap, _∙_}
-use mathlib.Core.Bool.{Bool, true, false, cond, true≢false}
+use mathlib.Core.Bool.{Bool, true, false, true≢false}
 use mathlib.Core.List.{List, [], _∷_, append-nil}
 use mathlib.Core.Logic.{inl, inr}
 use Prim.Native.Nat.{ℕ, zero, suc}
@@ -21,15 +21,14 @@ use Rattle.requests.specs.declared.Failure.{Failure}
 use Rattle.refusals.specs.declared.Verdict.the-variants.{Clear}
 use Rattle.unit.specs.declared.Unit.{Unit}
 use Rattle.cdb.specs.Cdb.{noFlush, isListed, stageFor, requestFor}
-use Rattle.operations.specs.Operations.{failureOf, registersOf, lastOf, dueFrom, isFlush, oneMore, flushesOf, reportGood, reportFailed, flushCounted, countsAsGood}
-use Rattle.exchange.specs.Answered.{heldIf, flushedWell, failed, succeeded, answeredFor}
+use Rattle.operations.specs.Operations.{failureOf, registersOf, lastOf, dueFrom, isFlush, oneMore, flushesOf, reportGood, reportFailed, flushCounted}
+use Rattle.exchange.specs.Answered.{heldIf, flushedWell, failed, succeeded, lastAnswered, answeredFor}
 use Rattle.bridge.specs.Bridge.{startStopRows}
 use Rattle.exchange.specs.Exchange.{nextEffect, answerRows}
 use Rattle.requests.specs.declared.Reply.{Reply}
 use Rattle.requests.specs.declared.Reply.the-variants.{Good, Bad}
 use Rattle.operations.specs.declared.Report.{Report}
 use Rattle.operations.specs.declared.Progress.the-variants.{Ended}
-use Rattle.exchange.specs.declared.Replied.{Replied}
 use Rattle.refusals.proofs.Lowest.{not-applies, clear-when}
 use Rattle.unit.proofs.Hosts.{own-slot}
 use Rattle.cdb.proofs.Requests.{request-fits, listed-when}
@@ -74,20 +73,14 @@ both-held u w x y host true f e = record {
 }
 both-held u w x y host false f e = e
 
--- The last answer, by whether it counts as good.
-abbrev lastBy : Bool → Unit → ℕ → Request → Replied
-lastBy good u host q = cond good (succeeded u host q) (failed u host q (flushesOf (q .stage)))
+-- The report that the last answer brings.
+abbrev lastReport : Reply → Request → Report
+lastReport Good q = reportGood (q .immed) (flushesOf (q .stage))
+lastReport Bad q = reportFailed (q .immed) (failureOf (q .target)) (flushesOf (q .stage))
 
-abbrev lastReport : Bool → Request → Report
-lastReport good q = cond good (reportGood (q .immed) (flushesOf (q .stage))) (reportFailed (q .immed) (failureOf (q .target)) (flushesOf (q .stage)))
-
-last-report : (good : Bool) (u : Unit) (host : ℕ) (q : Request) → lastBy good u host q .answer ≡ Ended (lastReport good q)
-last-report true u host q = refl
-last-report false u host q = refl
-
-last-taken : (w : Unit) (host : ℕ) (p : Request) (reply : Reply) (good : Bool) → isFlush (dueFrom (w .unsaved) p) ≡ false
-    → countsAsGood (p .target) reply ≡ good → answeredFor w host p reply ≡ lastBy good w host p
-last-taken w host p reply good due g = last-answered w host p reply due ∙ rw g
+last-report : (reply : Reply) (u : Unit) (host : ℕ) (q : Request) → lastAnswered u host q reply .answer ≡ Ended (lastReport reply q)
+last-report Good u host q = refl
+last-report Bad u host q = refl
 
 bad-flush-taken : (w : Unit) (host : ℕ) (p : Request) → p .stage ≡ Flushing 0
     → answeredFor w host p Bad ≡ failed w host p (oneMore (flushesOf (p .stage)))
@@ -126,9 +119,9 @@ module _ (u v w : Unit) (host : ℕ) (q p : Request) (same : Same u v) (ready : 
     mark' = refl;
   }
 
-  both-last : (good : Bool) → BothEnded u w (lastBy good u host q .unit) (lastBy good (nextEffect host w) host p .unit) host
-  both-last true = both-succeeded
-  both-last false = both-failed (flushesOf (q .stage)) (flushesOf (p .stage))
+  both-last : (reply : Reply) → BothEnded u w (lastAnswered u host q reply .unit) (lastAnswered (nextEffect host w) host p reply .unit) host
+  both-last Good = both-succeeded
+  both-last Bad = both-failed (flushesOf (q .stage)) (flushesOf (p .stage))
 
 -- ---- the operation that helped
 
@@ -307,31 +300,31 @@ module _ (past : List Deed) (u v : Unit) (known : Known past u) (same : Same u v
             (mark-stays other)
 
     -- The last command, after no flush or after one.
-    pub last-on : isFlush (dueFrom (u .unsaved) q) ≡ false → (reply : Reply) (good : Bool) → countsAsGood (q .target) reply ≡ good → (report : Report)
-        → Here (ends host reply report) (lastBy good u host q .unit)
-    last-on f reply good g report r = on (first .stage) refl (noted .reached)
+    pub last-on : isFlush (dueFrom (u .unsaved) q) ≡ false → (reply : Reply) (report : Report)
+        → Here (ends host reply report) (lastAnswered u host q reply .unit)
+    last-on f reply report r = on (first .stage) refl (noted .reached)
       where
         on : (s : Stage) → first .stage ≡ s → Reached s (q .stage) (flushesAnswered host past) (answersGot host past)
-            → Follows past v (ends host reply report) (lastBy good u host q .unit)
+            → Follows past v (ends host reply report) (lastAnswered u host q reply .unit)
         on Straight e reached =
-            let x = lastBy good (nextEffect host begun) host first in
+            let x = lastAnswered (nextEffect host begun) host first reply in
             ends-on reply report (reply ∷ []) _ begun _ (x .unit) (got reply report false f ∙ ap (gets false reply) (reached .2))
-            (whole-once v host cdb q admitted reply x (lastReport good first)
-            (last-taken (nextEffect host begun) host first reply good (straight-no-flush (v .unsaved) first e) g)
-            (last-report good (nextEffect host begun) host first))
+            (whole-once v host cdb q admitted reply x (lastReport reply first)
+            (last-answered (nextEffect host begun) host first reply (straight-no-flush (v .unsaved) first e))
+            (last-report reply (nextEffect host begun) host first))
             (stand-once reply report _ _)
-            (both-last u v begun host q first same (ready-begun v host cdb q admitted) good)
+            (both-last u v begun host q first same (ready-begun v host cdb q admitted) reply)
             (mark-stays (λ h is. straight-flushing (h .count) (sym (reached .0) ∙ ap (λ (y : Request). y .stage) (sym is) ∙ h .stage)))
         on (Flushing m) e reached =
             let zero = begins-at-zero (q .target) (noFlush cdb) m e in
             let p = flushCounted first in
-            let x = lastBy good (nextEffect host flushed) host p in
+            let x = lastAnswered (nextEffect host flushed) host p reply in
             let means = last-means (heldAt255 (flushesAnswered host past)) (u .unsaved) (lastOf (q .target)) (rw (reached .0) at f) in
             ends-on reply report (Good ∷ reply ∷ []) _ flushed _ (x .unit)
             (got reply report false f ∙ ap (gets false reply) (reached .1 ∙ some-good (flushesAnswered host past) (means .0)))
-            (whole-twice v host cdb q admitted zero reply x (lastReport good p)
-            (last-taken (nextEffect host flushed) host p reply good (flushed-due v host cdb q admitted) g)
-            (last-report good (nextEffect host flushed) host p))
+            (whole-twice v host cdb q admitted zero reply x (lastReport reply p)
+            (last-answered (nextEffect host flushed) host p reply (flushed-due v host cdb q admitted))
+            (last-report reply (nextEffect host flushed) host p))
             (stand-twice reply report _ _ _)
-            (both-last u v flushed host q p same (ready-flushed v host cdb q admitted zero) good)
+            (both-last u v flushed host q p same (ready-flushed v host cdb q admitted zero) reply)
             (inl (sym (means .1)))

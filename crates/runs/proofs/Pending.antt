@@ -121,6 +121,6 @@ module _ (past : List Deed) (u : Unit) (known : Known past u) (k : ℕ) where
     asked = λ host q clear waits r. unmoved;
     flushed = λ host q taken f. flushes-balance host q taken;
     flush-failed = λ host q taken f r. fails-balance host q (oneMore (flushesOf (q .stage))) taken;
-    last-succeeded = λ host reply q taken f g r. ends-balance host q taken;
-    last-failed = λ host reply q taken f g r. fails-balance host q (flushesOf (q .stage)) taken;
+    last-succeeded = λ host q taken f r. ends-balance host q taken;
+    last-failed = λ host q taken f r. fails-balance host q (flushesOf (q .stage)) taken;
   }) (all-others Balance u (λ c v did. other-balance c v (did .leaves)))

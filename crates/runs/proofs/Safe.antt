@@ -195,22 +195,24 @@ module _ (past : List Deed) (u : Unit) (known : Known past u) (marked : Marked p
       let out = taken-out u host (not-applies (answerRows u host) HasNone (taken .clear)) in
       (all-flushed (goesOn host Good) past refl (λ i written. rw (since host out i written, sent-due past u known host q taken, f)), λ last. refl)
 
-  -- A bad flush.
+  -- A bad answer, which ends its operation.
   bad-says : (host : ℕ) (report : Report) → After (ends host Bad report) u
   bad-says host report = quiet (ends host Bad report) refl refl (and-false (flushSent host past)) (and-false (asksFlush (cdbOf host past)))
 
-  -- The answer to the last command, good or bad: it is no answer to a flush.
-  last-says : (host : ℕ) (reply : Reply) (report : Report) (q : Request) → Taken u host q → isFlush (dueFrom (u .unsaved) q) ≡ false
-      → After (ends host reply report) u
-  last-says host reply report q taken f = (
-    marked-later (ends host reply report) past (u .unsaved) refl refl (rw (sent-due past u known host q taken, f)) marked,
+  -- A good answer to the last command: it is no answer to a flush.
+  last-says : (host : ℕ) (report : Report) (q : Request) → Taken u host q → isFlush (dueFrom (u .unsaved) q) ≡ false
+      → After (ends host Good report) u
+  last-says host report q taken f = (
+    marked-later (ends host Good report) past (u .unsaved) refl refl (rw (sent-due past u known host q taken, f)) marked,
     λ last. noted-saved (known .1 host q (taken .waiting)) (and-left (asksFlush (cdbOf host past)) _ last) (u .unsaved) f,
   )
 
   -- A failure that is held leaves the mark too.
-  failed-says : (host : ℕ) (reply : Reply) (q : Request) (n : ℕ) → let report = reportFailed (q .immed) (failureOf (q .target)) n in
-      After (ends host reply report) u → After (ends host reply report) (failed u host q n .unit)
-  failed-says host reply q n says = either (After (ends host reply (reportFailed (q .immed) (failureOf (q .target)) n))) (q .immed) _ _ says says
+  failed-says : (host : ℕ) (q : Request) (n : ℕ)
+      → After (ends host Bad (reportFailed (q .immed) (failureOf (q .target)) n)) (failed u host q n .unit)
+  failed-says host q n =
+      let report = reportFailed (q .immed) (failureOf (q .target)) n in
+      either (After (ends host Bad report)) (q .immed) _ _ (bad-says host report) (bad-says host report)
 
   -- A write sets the mark, a power-on clears it, any other call that is no part of an operation leaves it.
   other-says : (c : Call) (v : Unit) → Leaves u c v → After (does c) v
@@ -226,9 +228,9 @@ module _ (past : List Deed) (u : Unit) (known : Known past u) (marked : Marked p
     begun = λ host cdb t clear wants. quiet (begins host cdb) refl refl refl refl;
     asked = λ host q clear. asked-says host q;
     flushed = flushed-says;
-    flush-failed = λ host q taken f. failed-says host Bad q _ (bad-says host _);
-    last-succeeded = λ host reply q taken f g. last-says host reply _ q taken f;
-    last-failed = λ host reply q taken f g. failed-says host reply q _ (last-says host reply _ q taken f);
+    flush-failed = λ host q taken f. failed-says host q _;
+    last-succeeded = λ host q. last-says host _ q;
+    last-failed = λ host q taken f. failed-says host q _;
   }) (all-others After u (λ c v did. other-says c v (did .leaves)))
 
 -- ---- over any run from a well-formed record with nothing waiting and the mark clear

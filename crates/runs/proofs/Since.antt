@@ -13,7 +13,6 @@ use Rattle.requests.specs.declared.Request.{Request}
 use Rattle.unit.specs.declared.Unit.{Unit}
 use Rattle.operations.specs.Operations.{oneMore, flushesOf}
 use Rattle.exchange.specs.Answered.{failed}
-use Rattle.requests.specs.declared.Reply.{Reply}
 use Rattle.requests.specs.declared.Reply.the-variants.{Bad}
 use Rattle.operations.specs.declared.Report.{Report}
 use Rattle.calls.specs.Calls.{Call, setFeatures, step}
@@ -50,10 +49,9 @@ module _ (past : List Deed) (u : Unit) (since : SentSince past (u .out)) where
   stays-since : (d : Deed) → doesA isWrite d ≡ false → ((k : ℕ) (p : List Deed) → flushSent k (d ∷ p) ≡ flushSent k p) → SentSince (d ∷ past) (u .out)
   stays-since d no-write sends-none = since-later d past (u .out) no-write sends-none since
 
-  failed-since : (host : ℕ) (reply : Reply) (report : Report) (q : Request) (n : ℕ)
-      → SinceAfter (ends host reply report) (failed u host q n .unit)
-  failed-since host reply report q n =
-      either (SinceAfter (ends host reply report)) (q .immed) _ _ (none-since (ends host reply report ∷ past)) (none-since (ends host reply report ∷ past))
+  failed-since : (host : ℕ) (report : Report) (q : Request) (n : ℕ) → SinceAfter (ends host Bad report) (failed u host q n .unit)
+  failed-since host report q n =
+      either (SinceAfter (ends host Bad report)) (q .immed) _ _ (none-since (ends host Bad report ∷ past)) (none-since (ends host Bad report ∷ past))
 
   other-since : (c : Call) (v : Unit) → Leaves u c v → SinceAfter (does c) v
   other-since c v (sweeps power-on is slots none mark) = rw none (none-since (does c ∷ past))
@@ -67,7 +65,7 @@ module _ (past : List Deed) (u : Unit) (since : SentSince past (u .out)) where
     begun = λ host cdb t clear wants. stays-since (begins host cdb) refl (λ k p. refl);
     asked = λ host q clear waits. since-sent host _ past;
     flushed = λ host q taken f. none-since _;
-    flush-failed = λ host q taken f. failed-since host Bad _ q (oneMore (flushesOf (q .stage)));
-    last-succeeded = λ host reply q taken f g. none-since _;
-    last-failed = λ host reply q taken f g. failed-since host reply _ q (flushesOf (q .stage));
+    flush-failed = λ host q taken f. failed-since host _ q (oneMore (flushesOf (q .stage)));
+    last-succeeded = λ host q taken f. none-since _;
+    last-failed = λ host q taken f. failed-since host _ q (flushesOf (q .stage));
   }) (all-others SinceAfter u (λ c v did. other-since c v (did .leaves)))

@@ -24,7 +24,7 @@ use Rattle.unit.specs.declared.Out.{Out}
 use Rattle.unit.specs.declared.Out.the-variants.{NoneOut, OutFor}
 use Rattle.refusals.specs.declared.Answer.the-variants.{Refused}
 use Rattle.unit.specs.declared.Unit.{Unit}
-use Rattle.operations.specs.Operations.{registersOf, flushesOf, dueFrom, isFlush}
+use Rattle.operations.specs.Operations.{registersOf, flushesOf, dueFrom}
 use Rattle.operations.specs.declared.Due.the-variants.{Flush, StandbyImmediate}
 use Rattle.operations.specs.declared.Acceptance.the-variants.{GoodDue, Pending, NotAccepted}
 use Rattle.operations.specs.declared.Next.the-variants.{Send, NotSent}
@@ -162,35 +162,57 @@ isFailure (progressed More) = false
 isFailure (progressed (Ended report)) = isDue (report .sense)
 isFailure (progressed (NotTaken r)) = false
 
--- A failure leaves another record, made from the one before the call and the one that it should leave.
+-- The command due from what waits in the slot has this code,
+abbrev pub dueHasCode : ℕ → Bool → Slot → Bool
+dueHasCode code unsaved Empty = false
+dueHasCode code unsaved (Waiting q) = eqb (registersOf (dueFrom unsaved q) .command) code
+
+-- and so has the command that is out,
+abbrev pub outHasCode : ℕ → Unit → Out → Bool
+outHasCode code u NoneOut = false
+outHasCode code u (OutFor host) = dueHasCode code (u .unsaved) (slotOf (u .slots) host)
+
+-- by whose answer the operation fails.
+abbrev pub failsOn : ℕ → Unit → Call → Bool
+failsOn code u c = isFailure (outcome u c .said) && outHasCode code u (u .out)
+
+-- Another record is left, made from the one before the call and the one that it should leave: after every failure, or that of one command.
+abbrev pub leftBy : (Unit → Unit → Unit) → StepFunction
+leftBy change u c = leaving (change u (outcome u c .unit)) (outcome u c)
+
 abbrev pub onFailure : (Unit → Unit → Unit) → StepFunction
-onFailure change u c = cond (isFailure (outcome u c .said)) (leaving (change u (outcome u c .unit)) (outcome u c)) (outcome u c)
+onFailure change u c = cond (isFailure (outcome u c .said)) (leftBy change u c) (outcome u c)
+
+abbrev pub onFailureOf : ℕ → (Unit → Unit → Unit) → StepFunction
+onFailureOf code change u c = cond (failsOn code u c) (leftBy change u c) (outcome u c)
+
+-- The power condition is that before the call,
+abbrev pub powerKept : Unit → Unit → Unit
+powerKept before u = withDrive (poweredAs (before .drive .power) (before .drive .counts) (u .drive)) u
+
+-- or the stopped mark is cleared,
+abbrev pub markCleared : Unit → Unit → Unit
+markCleared before u = withMarks false (u .unsaved) u
+
+-- or the held senses are those before the call.
+abbrev pub heldKept : Unit → Unit → Unit
+heldKept before u = unitOf (u .drive) (u .stopped) (u .unsaved) (u .slots) (before .held) (u .out)
 
 -- Against "Bad flush: Active" and "Bad last command: Active": the power condition stays.
 abbrev pub keepsPower : StepFunction
-keepsPower = onFailure (λ before u. withDrive (poweredAs (before .drive .power) (before .drive .counts) (u .drive)) u)
-
--- The command that is out is a flush.
-abbrev pub flushDue : Bool → Slot → Bool
-flushDue unsaved Empty = false
-flushDue unsaved (Waiting q) = isFlush (dueFrom unsaved q)
-
-abbrev pub flushOut : Unit → Out → Bool
-flushOut u NoneOut = false
-flushOut u (OutFor host) = flushDue (u .unsaved) (slotOf (u .slots) host)
+keepsPower = onFailure powerKept
 
 -- Against "Bad flush: .. marks as before": it clears the unsaved mark.
 abbrev pub badFlushSaves : StepFunction
-badFlushSaves u c =
-    cond (isFailure (outcome u c .said) && flushOut u (u .out)) (leaving (marked false (outcome u c .unit)) (outcome u c)) (outcome u c)
+badFlushSaves = onFailureOf 0xE7 (λ before u. marked false u)
 
 -- "Clearing the stopped mark when a go to failed", and whenever another operation did.
 abbrev pub failureStarts : StepFunction
-failureStarts = onFailure (λ before u. withMarks false (u .unsaved) u)
+failureStarts = onFailure markCleared
 
 -- One that holds no failure, though it reports it as held.
 abbrev pub forgets : StepFunction
-forgets = onFailure (λ before u. unitOf (u .drive) (u .stopped) (u .unsaved) (u .slots) (before .held) (u .out))
+forgets = onFailure heldKept
 
 -- One that reports twice: it gives a failure's report, and lets the operation wait on.
 abbrev pub reportsTwice : StepFunction

@@ -420,7 +420,7 @@ owes-status-fails-report holds =
 pub forgets-fails-failure : FailureTold forgets → ⊥
 unfolding computed
 forgets-fails-failure holds =
-    let told = holds fresh 0 stopImmediate (next 0 ∷ []) Bad _ [] (replicate 18 0) refl refl refl refl refl refl refl refl in
+    let told = holds fresh 0 stopImmediate (next 0 ∷ []) _ [] (replicate 18 0) refl refl refl refl refl refl refl in
     let shown : _≡_ {A = ℕ} 0x70 0x71 = ap (λ (l : List ℕ). getD l 0 0) told in
     omega arith
 
@@ -434,9 +434,10 @@ reports-twice-fails-fate holds =
 -- A held failure stays through all of these.
 abbrev meanwhile : List Call
 meanwhile =
-    -- starts of the host's own that end well, with IMMED and without; a stop of its own that fails, without
+    -- starts of the host's own that end well, with IMMED and without; a start and a stop of its own that fail, without
     startStop 0 (0x1B ∷ 1 ∷ 0 ∷ 0 ∷ 1 ∷ 0 ∷ []) ∷ next 0 ∷ answer 0 Good
     ∷ startStop 0 startCdb ∷ next 0 ∷ answer 0 Good
+    ∷ startStop 0 startCdb ∷ next 0 ∷ answer 0 Bad
     ∷ stops 0 ∷ next 0 ∷ answer 0 Bad
     -- its own REQUEST SENSE refused, with number 1
     ∷ requestSense 0 []
@@ -450,7 +451,7 @@ meanwhile =
 pub drops-all-held-fails-failure : FailureTold dropsAllHeld → ⊥
 unfolding computed
 drops-all-held-fails-failure holds =
-    let told = holds fresh 0 stopImmediate (next 0 ∷ []) Bad _ meanwhile (replicate 18 0) refl refl refl refl refl refl refl refl in
+    let told = holds fresh 0 stopImmediate (next 0 ∷ []) _ meanwhile (replicate 18 0) refl refl refl refl refl refl refl in
     let shown : _≡_ {A = ℕ} 0x70 0x71 = ap (λ (l : List ℕ). getD l 0 0) told in
     omega arith
 

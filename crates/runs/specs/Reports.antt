@@ -8,22 +8,21 @@ use Rattle.rows.specs.Rows.{everyAt}
 use Rattle.senses.specs.Senses.{senseBytes}
 use Rattle.senses.specs.declared.Sense.{Sense}
 use Rattle.unit.specs.Units.{slotOf, heldOf, wellFormed}
-use Rattle.requests.specs.Requests.{failureSense}
 use Rattle.requests.specs.declared.Request.{Request}
 use Rattle.unit.specs.declared.Slot.{Slot}
 use Rattle.unit.specs.declared.Slot.the-variants.{Waiting}
 use Rattle.unit.specs.declared.Held.the-variants.{Nothing}
-use Rattle.requests.specs.declared.Failure.{Failure}
-use Rattle.requests.specs.declared.Failure.the-variants.{CommandSequence}
 use Rattle.refusals.specs.declared.SenseDue.{SenseDue}
 use Rattle.refusals.specs.declared.SenseDue.the-variants.{NoSense, WithSense}
 use Rattle.unit.specs.declared.Unit.{Unit}
 use Rattle.cdb.specs.Cdb.{immed, wanted}
-use Rattle.operations.specs.Operations.{failureOf, countsAsGood}
+use Rattle.operations.specs.Operations.{isGood}
 use Rattle.cdb.specs.declared.Wanted.{Wanted}
 use Rattle.cdb.specs.declared.Wanted.the-variants.{Wants, Unlisted}
 use Rattle.operations.specs.declared.Acceptance.the-variants.{GoodDue, Pending}
 use Rattle.requests.specs.declared.Reply.{Reply}
+use Rattle.requests.specs.declared.Reply.the-variants.{Bad}
+use Rattle.requests.specs.declared.Target.the-variants.{Stop, Start, GoTo}
 use Rattle.operations.specs.declared.Report.{Report}
 use Rattle.operations.specs.declared.Status.{Status}
 use Rattle.operations.specs.declared.Status.the-variants.{NoStatus, GoodStatus, CheckCondition}
@@ -109,24 +108,33 @@ OneFate by = (u : Unit) (host : ℕ) (cdb : List ℕ) (cs : List Call) → wellF
     → let later = deedsAfter by u (startStop host cdb) cs in
     (fates host later ≡ 1) × (stillOpen host later ≡ true → WaitsAs cdb (slotOf (unitAfter by u (startStop host cdb) cs .slots) host))
 
--- The last answer makes it fail: it is bad, but "Start counts as good whatever the verify answered".
-abbrev pub fails : Wanted → Reply → Bool
-fails Unlisted reply = false
-fails (Wants t) reply = not (countsAsGood t reply)
+-- The last answer makes it fail: "Bad flush: .. operation over, failed", "Bad last command: .. failed", and by document 02, request (ii), "a bad
+-- verify fails the start".
+abbrev pub fails : Reply → Bool
+fails reply = not (isGood reply)
 
--- What it then says, by what the CDB asks for.
-abbrev pub failureFor : Wanted → Failure
-failureFor Unlisted = CommandSequence
-failureFor (Wants t) = failureOf t
+-- The sense that it then has, by what the CDB asks for: "Failure is ABORTED COMMAND, COMMAND SEQUENCE ERROR (0B/2C/00)"; of a start, by request (ii),
+-- "NOT READY, 02/04/02".
+abbrev pub sequenceError : Sense
+sequenceError = record { key = 0x0B; asc = 0x2C; ascq = 0x00 }
+
+abbrev pub notReady : Sense
+notReady = record { key = 0x02; asc = 0x04; ascq = 0x02 }
+
+abbrev pub senseFor : Wanted → Sense
+senseFor Unlisted = sequenceError
+senseFor (Wants Stop) = sequenceError
+senseFor (Wants Start) = notReady
+senseFor (Wants (GoTo c)) = sequenceError
 
 -- What the acceptance and the end report say, by the CDB and the last answer: the status comes with one of them, a failure with its sense.
 pub record ReportsAs (cdb : List ℕ) (reply : Reply) (said : Said) (report : Report) : Type 0 where
   -- "With IMMED 1, GOOD is due on acceptance"
   pub acceptance : said ≡ accepted (cond (immed cdb) GoodDue Pending)
   -- "With IMMED 0 the status comes with the last answer."
-  pub status : report .status ≡ cond (immed cdb) NoStatus (cond (fails (wanted cdb) reply) CheckCondition GoodStatus)
-  -- "Failure is ABORTED COMMAND, COMMAND SEQUENCE ERROR (0B/2C/00)."
-  pub sense : report .sense ≡ cond (fails (wanted cdb) reply) (WithSense (failureSense (failureFor (wanted cdb)))) NoSense
+  pub status : report .status ≡ cond (immed cdb) NoStatus (cond (fails reply) CheckCondition GoodStatus)
+  -- a failure has its sense, what went well has none
+  pub sense : report .sense ≡ cond (fails reply) (WithSense (senseFor (wanted cdb))) NoSense
 
 -- The end report of what was still open.
 abbrev pub EndReported : StepFunction → Type 0
@@ -147,14 +155,14 @@ HeldTold by = (u : Unit) (host : ℕ) (reply : Reply) (report : Report) (s : Sen
     → (by w (requestSense host buffer) .buffer ≡ senseBytes true s) × (heldOf (by w (requestSense host buffer) .unit .held) host ≡ Nothing)
 
 -- A failure with IMMED is what that host's next accepted REQUEST SENSE gives, unless a newer failure or a reset came between: a START STOP UNIT
--- accepted with IMMED 1; its last answer, by which it fails; nothing that takes the held sense; the bytes of the failure.
+-- accepted with IMMED 1; its last answer, which is bad; nothing that takes the held sense; the bytes of the failure.
 abbrev pub FailureTold : StepFunction → Type 0
-FailureTold by = (u : Unit) (host : ℕ) (cdb : List ℕ) (cs : List Call) (reply : Reply) (report : Report) (later : List Call) (buffer : List ℕ)
-    → wellFormed u ≡ true → deedBy by u (startStop host cdb) ≡ begins host cdb → immed cdb ≡ true → fails (wanted cdb) reply ≡ true
+FailureTold by = (u : Unit) (host : ℕ) (cdb : List ℕ) (cs : List Call) (report : Report) (later : List Call) (buffer : List ℕ)
+    → wellFormed u ≡ true → deedBy by u (startStop host cdb) ≡ begins host cdb → immed cdb ≡ true
     → stillOpen host (deedsAfter by u (startStop host cdb) cs) ≡ true
     → let v = unitAfter by u (startStop host cdb) cs in
-    deedBy by v (answer host reply) ≡ ends host reply report
-    → everyAt (λ at d. keepsHeld host d) 0 (deedsAfter by v (answer host reply) later) ≡ true
-    → let w = unitAfter by v (answer host reply) later in
+    deedBy by v (answer host Bad) ≡ ends host Bad report
+    → everyAt (λ at d. keepsHeld host d) 0 (deedsAfter by v (answer host Bad) later) ≡ true
+    → let w = unitAfter by v (answer host Bad) later in
     deedBy by w (requestSense host buffer) ≡ does (requestSense host buffer)
-    → by w (requestSense host buffer) .buffer ≡ senseBytes true (failureSense (failureFor (wanted cdb)))
+    → by w (requestSense host buffer) .buffer ≡ senseBytes true (senseFor (wanted cdb))

@@ -24,7 +24,7 @@ use Rattle.requests.specs.declared.Target.{Target}
 use Rattle.requests.specs.declared.Target.the-variants.{Stop, Start, GoTo}
 use Rattle.unit.specs.declared.Unit.{Unit}
 use Rattle.words.specs.Codes.{codes}
-use Rattle.digits.specs.Numerals.{decimalText, rightIn}
+use Rattle.digits.specs.Numerals.{decimalText, rightIn, pairs}
 use Rattle.digits.proofs.Lengths.{Within, whole, looser, _then_, either, decimal, tenths, at-right, at-left, ended, none, each}
 use Rattle.table.specs.Rows.{yesText, secondsText, settingText, recordText, isRunning, leftText, recordRow, rowText}
 use Rattle.table.specs.Below.{flagText, outText, targetText, immedText, stageText, slotText, heldText, hostText}
@@ -88,9 +88,10 @@ slot : (s : Slot) → Within (slotText s) 51
 slot Empty = looser (omega arith) (whole (codes "nothing waiting"))
 slot (Waiting q) = target (q .target) then immed (q .immed) then stage (q .stage)
 
-held : (h : Held) → Within (heldText h) 21
+held : (h : Held) → Within (heldText h) 30
+unfolding pairs
 held Nothing = looser (omega arith) (whole [])
-held (Holds f) = whole (codes ", deferred sense held")
+held (Holds f) = whole (heldText (Holds f))
 
 -- ---- the lines, by their groups
 

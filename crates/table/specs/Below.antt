@@ -1,7 +1,10 @@
 -- The power log for the eye: "then the marks, the idle count and each host's operation on lines of their own". Assumes nothing.
 use mathlib.Core.Bool.{Bool, cond}
 use mathlib.Core.List.{List, [], _++_}
+use Prim.Native.Char.{code}
 use Prim.Native.Nat.{ℕ}
+use Rattle.senses.specs.declared.Sense.{Sense}
+use Rattle.requests.specs.Requests.{failureSense}
 use Rattle.unit.specs.Units.{slotOf, heldOf}
 use Rattle.unit.specs.declared.Held.{Held}
 use Rattle.unit.specs.declared.Held.the-variants.{Nothing, Holds}
@@ -17,6 +20,7 @@ use Rattle.requests.specs.declared.Target.the-variants.{Stop, Start, GoTo}
 use Rattle.unit.specs.declared.Unit.{Unit}
 use Rattle.words.specs.Codes.{codes}
 use Rattle.digits.specs.Numerals.{decimalText, tenthsText}
+use Rattle.digits.specs.Pieces.{senseText}
 use Rattle.table.specs.Rows.{nameText}
 
 abbrev pub flagText : Bool → List ℕ
@@ -56,9 +60,13 @@ abbrev pub slotText : Slot → List ℕ
 slotText Empty = codes "nothing waiting"
 slotText (Waiting q) = requestText q
 
+-- Which failure a host has still to hear of.
+abbrev pub senseHeldText : Sense → List ℕ
+senseHeldText s = codes ", deferred sense" ++ senseText (code " ") (code "/") (s .key) (s .asc) (s .ascq) ++ codes " held"
+
 abbrev pub heldText : Held → List ℕ
 heldText Nothing = []
-heldText (Holds f) = codes ", deferred sense held"
+heldText (Holds f) = senseHeldText (failureSense f)
 
 abbrev pub hostText : Unit → ℕ → List ℕ
 hostText u host =

@@ -7,7 +7,7 @@ ghost use lib.ListN.{getD};
 ghost use Rattle.digits.specs.Sheets.{sheet, wroteAll};
 ghost use Rattle.digits.specs.Texts.{said, cut};
 ghost use Rattle.table.specs.Below;
-ghost use Rattle.table.specs.Below.{outText, targetText, stageText, requestText, slotText, heldText, hostText};
+ghost use Rattle.table.specs.Below.{outText, targetText, stageText, requestText, slotText, senseHeldText, heldText, hostText};
 ghost use Rattle.table.specs.Counts.{countText, rowName, columnsText, countRow, countAt};
 ghost use Rattle.table.specs.Rows;
 ghost use Rattle.table.specs.Rows.{isRunning, nameText, yesText, secondsText, settingText, recordText, leftText, labelText, recordRow, activeRow, rowText};
@@ -22,6 +22,7 @@ use drive::Tenths;
 use requests::Request;
 use requests::Stage;
 use requests::Target;
+use senses::Sense;
 use unit::Held;
 use unit::Out;
 use unit::Slot;
@@ -227,12 +228,23 @@ fn put_slot(t: Text, s: Slot) -> Text
     }
 }
 
+// Which failure a host has still to hear of.
+fn put_sense_held(t: Text, s: Sense) -> Text
+    ensures { λ r. ⌜ said r ≡ cut (said t ++ senseHeldText s) ⌝ }
+{
+    let head = digits::put_all(t, b", deferred sense");
+    digits::put_all(
+        digits::put_sense(head, s.key, s.asc, s.ascq, b' ', b'/'),
+        b" held",
+    )
+}
+
 fn put_held(t: Text, h: Held) -> Text
     ensures { λ r. ⌜ said r ≡ cut (said t ++ heldText h) ⌝ }
 {
     match h {
         Held::Nothing => t,
-        Held::Holds(_) => digits::put_all(t, b", deferred sense held"),
+        Held::Holds(f) => put_sense_held(t, requests::failure_sense(f)),
     }
 }
 

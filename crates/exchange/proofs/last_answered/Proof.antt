@@ -1,10 +1,10 @@
--- By the answer, as the target reads it.
+-- By the answer.
 use borrow.Author.Needs.{needs}
 use Rattle.exchange.proofs.last_answered.Statement.{statement}
 use Rattle.exchange.proofs.last_answered.Tie as tie
 
-counts-as-good-requires : tie.Need-counts-as-good-requires
-counts-as-good-requires c κs = search needs
+is-good-requires : tie.Need-is-good-requires
+is-good-requires c κs = search needs
 
 succeed-requires : tie.Need-succeed-requires
 succeed-requires c κs = search needs
@@ -16,12 +16,12 @@ fail-requires : tie.Need-fail-requires
 fail-requires c κs = search needs
 
 returns : tie.Need-returns
-returns c = λ host. rw (← c .before .before .counts-as-good .ensures, c .before .if1 .taken) (c .succeed .ensures host)
+returns c = λ host. rw (← c .before .before .is-good .ensures, c .before .if1 .taken) (c .succeed .ensures host)
 
 returns-2 : tie.Need-returns-2
 returns-2 c =
     λ host. rw (
-      ← c .before .before .before .counts-as-good .ensures,
+      ← c .before .before .before .is-good .ensures,
       c .before .before .if1 .left,
       c .fail .ensures host,
       c .before .flushes-of .ensures,
@@ -31,7 +31,7 @@ pub last-answered-spec : {M : Type 1} → statement M
 last-answered-spec =
     tie.close
     (tie.spec
-    counts-as-good-requires
+    is-good-requires
     succeed-requires
     flushes-of-requires
     fail-requires

@@ -21,8 +21,11 @@ returns c =
     let a = c .before .before .before in
     rw (c .offered .ensures, ← a .is-none .ensures, c .before .before .if1 .taken) (cc)
 
-is-failure-requires : tie.Need-is-failure-requires
-is-failure-requires c κs = tt
+failure-in-requires : tie.Need-failure-in-requires
+failure-in-requires c κs = tt
+
+spells-failure-requires : tie.Need-spells-failure-requires
+spells-failure-requires c κs = tt
 
 offered-requires-2 : tie.Need-offered-requires-2
 offered-requires-2 c κs = tt
@@ -30,8 +33,14 @@ offered-requires-2 c κs = tt
 returns-2 : tie.Need-returns-2
 unfolding heldLine
 returns-2 c =
-    let a = c .before .before .before in
-    rw (c .offered2 .ensures, ← a .before .is-none .ensures, a .if1 .left, c .before .is-failure .ensures) (cc)
+    let a = c .before .before .before .before in
+    rw (
+      c .offered2 .ensures,
+      ← a .before .is-none .ensures,
+      a .if1 .left,
+      c .before .spells-failure .ensures,
+      c .before .before .before .failure-in .ensures,
+    ) (cc)
 
 pub held-line-spec : {M : Type 1} → statement M
 held-line-spec =
@@ -42,6 +51,7 @@ held-line-spec =
     is-none-requires
     offered-requires
     returns
-    is-failure-requires
+    failure-in-requires
+    spells-failure-requires
     offered-requires-2
     returns-2)

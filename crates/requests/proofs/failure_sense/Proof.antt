@@ -1,17 +1,19 @@
--- There is one failure.
-use mathlib.Core.Path.{_≡_, refl}
-use Rattle.requests.specs.Requests.{failureSense}
-use Rattle.requests.specs.declared.Failure.{Failure}
-use Rattle.requests.specs.declared.Failure.the-variants.{CommandSequence}
-use Rattle.senses.specs.declared.Sense.{Sense}
+-- By the failure.
+use borrow.Author.Needs.{needs}
 use Rattle.requests.proofs.failure_sense.Statement.{statement}
 use Rattle.requests.proofs.failure_sense.Tie as tie
 
-only : (f : Failure) → _≡_ {A = Sense} (record { key = 0x0B; asc = 0x2C; ascq = 0x00 }) (failureSense f)
-only CommandSequence = refl
+enum-told : tie.Need-enum-told
+enum-told c = search needs
+
+enum-told-2 : tie.Need-enum-told-2
+enum-told-2 c = search needs
 
 returns : tie.Need-returns
-returns c = only (c .args .f)
+returns c = rw (c .enum-told .given .1)
+
+returns-2 : tie.Need-returns-2
+returns-2 c = rw (c .enum-told2 .given .1)
 
 pub failure-sense-spec : {M : Type 1} → statement M
-failure-sense-spec = tie.close (tie.spec returns)
+failure-sense-spec = tie.close (tie.spec enum-told enum-told-2 returns returns-2)

@@ -7,14 +7,14 @@ use Rattle.table.proofs.put_held.Tie as tie
 enum-told : tie.Need-enum-told
 enum-told c = search needs
 
-enum-told-2 : tie.Need-enum-told-2
-enum-told-2 c = search needs
+enum-known-h : tie.Need-enum-known-h
+enum-known-h c = search needs
 
-slice-aggregate-put-all : tie.Need-slice-aggregate-put-all
-slice-aggregate-put-all c = search needs
+failure-sense-requires : tie.Need-failure-sense-requires
+failure-sense-requires c κs = tt
 
-put-all-requires : tie.Need-put-all-requires
-put-all-requires c κs = tt
+put-sense-held-requires : tie.Need-put-sense-held-requires
+put-sense-held-requires c κs = tt
 
 returns : tie.Need-returns
 returns c =
@@ -22,9 +22,9 @@ returns c =
     rw (c .enum-told .given .1) (cut-said (start .args .t) (start .good .0 .1 .1 .0 .1 .0 .1))
 
 returns-2 : tie.Need-returns-2
-returns-2 c = rw (c .put-all .ensures, c .before .before .enum-told2 .given .1)
+returns-2 c = rw (c .put-sense-held .ensures, c .before .failure-sense .ensures, c .before .before .before .h .given .1)
 
 pub put-held-spec : {M : Type 1} → statement M
 put-held-spec =
     tie.close
-    (tie.spec enum-told enum-told-2 slice-aggregate-put-all put-all-requires returns returns-2)
+    (tie.spec enum-told enum-known-h failure-sense-requires put-sense-held-requires returns returns-2)

@@ -1,6 +1,6 @@
 -- The three bytes and the failure's sense in the callees' words.
-use Rattle.hosts.proofs.is_failure.Statement.{statement}
-use Rattle.hosts.proofs.is_failure.Tie as tie
+use Rattle.hosts.proofs.spells_failure.Statement.{statement}
+use Rattle.hosts.proofs.spells_failure.Tie as tie
 
 byte-at-requires : tie.Need-byte-at-requires
 byte-at-requires c κs = tt
@@ -19,8 +19,8 @@ returns c =
     let compared = c .before .before .before .before in
     rw (compared .before .before .before .before .before .failure-sense .ensures) cc
 
-pub is-failure-spec : {M : Type 1} → statement M
-is-failure-spec =
+pub spells-failure-spec : {M : Type 1} → statement M
+spells-failure-spec =
     tie.close
     (tie.spec
     byte-at-requires
