@@ -53,16 +53,14 @@ module _ (u : Unit) (fine : wellFormed u ≡ true) (host : ℕ) (q : Request) (w
       on true = refl
       on false = refl
 
-  -- and "With IMMED 0 the status comes with the last answer": through every answer.
-  pub told-not-held : q .immed ≡ false → (reply : Reply) → answerOutcome u host reply .unit .held ≡ u .held
+  -- and through a bad one where "With IMMED 0 the status comes with the last answer".
+  pub told-not-held : q .immed ≡ false → answerOutcome u host Bad .unit .held ≡ u .held
   unfolding answeredFor
-  told-not-held at-once reply = rw (answer-taken u fine host q waiting out reply) (on (isFlush (dueFrom (u .unsaved) q)) reply)
+  told-not-held at-once = rw (answer-taken u fine host q waiting out Bad) (on (isFlush (dueFrom (u .unsaved) q)))
     where
-      on : (b : Bool) (reply : Reply) → cond b (flushAnswered u host q reply) (lastAnswered u host q reply) .unit .held ≡ u .held
-      on true Good = refl
-      on true Bad = rw at-once
-      on false Good = refl
-      on false Bad = rw at-once
+      on : (b : Bool) → cond b (flushAnswered u host q Bad) (lastAnswered u host q Bad) .unit .held ≡ u .held
+      on true = rw at-once
+      on false = rw at-once
 
   module _ (last : dueFrom (u .unsaved) q ≡ lastOf (q .target)) where
     judged : (reply : Reply) → answerOutcome u host reply ≡ lastAnswered u host q reply

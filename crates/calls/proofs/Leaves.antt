@@ -55,7 +55,7 @@ module _ (u : Unit) (host : ℕ) where
 
 -- ---- START STOP UNIT, the next command, REQUEST SENSE
 
--- Each is accepted and moves nothing: the condition, the marks and the settings are changed by the drive's answer.
+-- Accepted, each leaves the condition and the marks as they are: it is the drive's answer that changes them.
 module _ (u : Unit) (host : ℕ) where
   pub accepted-leaves : (cdb : List ℕ) → verdictIn (outcome u (startStop host cdb) .said) ≡ Clear
       → Leaves (u .drive .power) (u .stopped) (u .unsaved) (step u (startStop host cdb))

@@ -135,6 +135,14 @@ ssu two three four = cdbCall 0x1B 0 two three four 0
 abbrev pub runWhole : ℕ → Reply → List Call
 runWhole four reply = ssu 0 0 four ∷ next 0 ∷ answer 0 reply ∷ []
 
+-- Run whole from this record, with a good answer it leaves the unit running in this condition;
+abbrev pub runsWell : ℕ → Power → Unit → Example
+runsWell four p u = record { start = u; calls = runWhole four Good; shows = endedGood (onceRunning p u) }
+
+-- a start with a bad one leaves it Active, the marks as before.
+abbrev pub startFails : Unit → Example
+startFails u = record { start = u; calls = runWhole 0x01 Bad; shows = startFailed CheckCondition (withPower Active u) }
+
 -- ---- the table
 
 pub data Fact : Type 0 where
@@ -202,16 +210,8 @@ factOf unsupported-z = record {
 -- ---- "READ VERIFY 40h, Count 1, LBA 0."
 factOf verify-sent = record { start = fresh; calls = ssu 0 0 1 ∷ next 0 ∷ []; shows = sends 0x40 0 1 0 }
 -- Document 02, request (ii): "From now a bad verify fails the start: NOT READY, 02/04/02, .. unit Active, stopped mark as before."
-factOf verify-bad = record {
-  start = stoppedIn (Low StandbyZ Command);
-  calls = runWhole 0x01 Bad;
-  shows = startFailed CheckCondition (withPower Active (stoppedIn (Low StandbyZ Command)));
-}
-factOf verify-stays = record {
-  start = runningIn (Low IdleA Command);
-  calls = runWhole 0x01 Bad;
-  shows = startFailed CheckCondition (withPower Active (runningIn (Low IdleA Command)));
-}
+factOf verify-bad = startFails (stoppedIn (Low StandbyZ Command))
+factOf verify-stays = startFails (runningIn (Low IdleA Command))
 -- "deferred with IMMED 1", in the place of an older failure; of 1h "as start", told by the next REQUEST SENSE.
 factOf verify-held = record {
   start = withHeld 0 (Holds CommandSequence) (stoppedIn (Low StandbyZ Command));
@@ -224,27 +224,11 @@ factOf verify-told = record {
   shows = tellsDeferred 0x02 0x04 0x02;
 }
 -- A good verify: Active, and "the stopped mark becomes .. zero for any other".
-factOf start-starts = record {
-  start = stoppedIn (Low StandbyZ Command);
-  calls = runWhole 0x01 Good;
-  shows = endedGood (onceRunning Active (stoppedIn (Low StandbyZ Command)));
-}
-factOf start-stays = record {
-  start = runningIn (Low IdleA Command);
-  calls = runWhole 0x01 Good;
-  shows = endedGood (onceRunning Active (runningIn (Low IdleA Command)));
-}
-factOf start-1h = record {
-  start = stoppedIn (Low StandbyZ Command);
-  calls = runWhole 0x10 Good;
-  shows = endedGood (onceRunning Active (stoppedIn (Low StandbyZ Command)));
-}
+factOf start-starts = runsWell 0x01 Active (stoppedIn (Low StandbyZ Command))
+factOf start-stays = runsWell 0x01 Active (runningIn (Low IdleA Command))
+factOf start-1h = runsWell 0x10 Active (stoppedIn (Low StandbyZ Command))
 -- ---- "the stopped mark becomes one for stop, zero for any other": a go to Idle_A with NO_FLUSH, of a stopped unit and of one that runs.
-factOf goes-starts = record {
-  start = stoppedIn (Low StandbyZ Command);
-  calls = runWhole 0x24 Good;
-  shows = endedGood (onceRunning (Low IdleA Command) (stoppedIn (Low StandbyZ Command)));
-}
+factOf goes-starts = runsWell 0x24 (Low IdleA Command) (stoppedIn (Low StandbyZ Command))
 factOf goes-stays = record { start = runningIn Active; calls = runWhole 0x24 Good; shows = endedGood (runningIn (Low IdleA Command)) }
 -- ---- "1h go to": "unit enters the condition, cause command; marks stay".
 factOf epc-keeps =

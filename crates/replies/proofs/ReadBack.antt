@@ -1,10 +1,9 @@
--- Lines that `show` prints are read back as the parts that they were printed from: each is printed and read by computing.
+-- Lines that `show` prints are read back as the parts that they were printed from, and near misses of `held` are bad lines: each is computed.
 use mathlib.Core.Path.{_≡_, refl}
 use mathlib.Core.Bool.{Bool, true, false}
 use mathlib.Core.List.{List, [], _∷_, map}
 use Prim.Native.Nat.{ℕ}
 use lib.ListN.{replicate}
-use Rattle.words.specs.Codes.{codes}
 use Rattle.drive.specs.Records.{unsupported}
 use Rattle.conditions.specs.declared.Cause.the-variants.{Timer, Command}
 use Rattle.conditions.specs.declared.Condition.the-variants.{IdleA, IdleB, StandbyY, StandbyZ}
@@ -20,6 +19,7 @@ use Rattle.requests.specs.declared.Stage.{Stage}
 use Rattle.requests.specs.declared.Stage.the-variants.{Straight, Flushing}
 use Rattle.requests.specs.declared.Target.{Target}
 use Rattle.requests.specs.declared.Target.the-variants.{Stop, Start, GoTo}
+use Rattle.words.specs.Codes.{codes}
 use Rattle.words.specs.Lines.{beforeReturn}
 use Rattle.words.specs.Numbers.{areDigits, valueAfter, isNumber, wordNumber, wordFlag}
 use Rattle.words.specs.Words.{pieces, nonempty, words, wordAt, placeIn}
@@ -106,6 +106,5 @@ misses =
     ∷ []
 
 pub none-read : map lineOfText misses ≡ replicate 11 Wrong
-unfolding numeral pairs partText beforeReturn pieces nonempty words wordAt placeIn areDigits valueAfter isNumber wordNumber wordFlag
-    lineOfText lineOfWords conditionLine stateLine slotLine heldLine outLine countsLine
+unfolding beforeReturn pieces nonempty words wordAt placeIn areDigits valueAfter isNumber wordNumber lineOfText lineOfWords heldLine
 none-read = refl
