@@ -9,7 +9,7 @@ use lib.Dec.{leb, ltb}
 use lib.ListN.{length, getD}
 use borrow.Author.Tests.{leb-true, le-leb, ltb-true, ltb-false}
 use Rattle.rows.proofs.Places.{and-left, and-right, and-both}
-use Rattle.rows.proofs.Last.{LastAt, NoneAt, fold-last, fold-none, last-or-none}
+use Rattle.rows.proofs.Last.{LastAt, NoneAt, last-or-none}
 use Rattle.conditions.specs.declared.Condition.{Condition}
 use Rattle.drive.specs.declared.Record.{Record}
 use Rattle.conditions.specs.declared.Power.{Power}
@@ -19,6 +19,7 @@ use Rattle.drive.specs.declared.Drive.{Drive}
 use Rattle.conditions.specs.Conditions.{placeOf, conditionAt, depth}
 use Rattle.drive.specs.Drives.{counted, ranOut, timersAsk, withIdle, entered, ticked}
 use Rattle.conditions.proofs.Conditions.{place-below, at-place, place-at}
+use Rattle.drive.proofs.Depths.{ranOutAt, last-asked, none-asked}
 
 -- ---- what the timers ask for
 
@@ -42,10 +43,7 @@ pub record Lowest (rs : List Record) (count : ℕ) (z : Record) (c : Condition) 
   pub none-lower : (e : Condition) → placeOf c < placeOf e → Runs rs count z e
 
 module _ (rs : List Record) (five : length rs ≡ 5) (count : ℕ) (z : Record) where
-  abbrev test : ℕ → Record → Bool
-  test place r = ranOut count r
-
-  to-last : (c : Condition) → Lowest rs count z c → LastAt test rs z (placeOf c)
+  to-last : (c : Condition) → Lowest rs count z c → LastAt (ranOutAt count) rs z (placeOf c)
   to-last c h = record {
     inside = omega (arith, place-below c);
     passes = h .ran-out;
@@ -54,7 +52,7 @@ module _ (rs : List Record) (five : length rs ≡ 5) (count : ℕ) (z : Record) 
         rw at at (h .none-lower (conditionAt j) (omega arith));
   }
 
-  from-last : (i : ℕ) → LastAt test rs z i → Lowest rs count z (conditionAt i)
+  from-last : (i : ℕ) → LastAt (ranOutAt count) rs z i → Lowest rs count z (conditionAt i)
   from-last i h =
       let at : placeOf (conditionAt i) ≡ i = place-at i (omega (arith, h .inside)) in
       record {
@@ -62,21 +60,19 @@ module _ (rs : List Record) (five : length rs ≡ 5) (count : ℕ) (z : Record) 
         none-lower = λ e k. h .none-after (placeOf e) (omega arith) (omega (arith, place-below e));
       }
 
-  none-from : ((c : Condition) → Runs rs count z c) → NoneAt test rs z
+  none-from : ((c : Condition) → Runs rs count z c) → NoneAt (ranOutAt count) rs z
   none-from h i k = rw (place-at i (omega arith)) at (h (conditionAt i))
 
   -- There is a lowest condition that has run out, or none has.
   pub lowest-or-none : ((c : Condition) × Lowest rs count z c) ⊎ ((c : Condition) → Runs rs count z c)
   lowest-or-none =
-      ⊎-elim (λ h. inl (conditionAt (h .0), from-last (h .0) (h .1))) (λ h. inr (λ c. h (placeOf c) (omega (arith, place-below c)))) (last-or-none test rs z)
+      ⊎-elim (λ h. inl (conditionAt (h .0), from-last (h .0) (h .1))) (λ h. inr (λ c. h (placeOf c) (omega (arith, place-below c)))) (last-or-none (ranOutAt count) rs z)
 
   ask-lowest : (c : Condition) → Lowest rs count z c → timersAsk rs count ≡ Low c Timer
-  unfolding timersAsk
-  ask-lowest c h = fold-last test (λ i. Low (conditionAt i) Timer) Active rs z (placeOf c) (to-last c h) ∙ rw (at-place c)
+  ask-lowest c h = last-asked rs count z (placeOf c) (to-last c h) ∙ rw (at-place c)
 
   ask-none : ((c : Condition) → Runs rs count z c) → timersAsk rs count ≡ Active
-  unfolding timersAsk
-  ask-none h = fold-none test (λ i. Low (conditionAt i) Timer) Active rs z (none-from h)
+  ask-none h = none-asked rs count z (none-from h)
 
   -- The timers ask for c, cause timer, exactly if c has run out and nothing lower has.
   pub timers-ask-for : (c : Condition) → (timersAsk rs count ≡ Low c Timer) ↔ Lowest rs count z c

@@ -216,31 +216,26 @@ fn ran_out(count: Tenths, r: Record) -> bool
     r.current.enabled & (r.current.timer.0 <= count.0)
 }
 
-fn pick(b: bool, x: usize, y: usize) -> usize
-    ensures { λ r. ⌜ r ≡ cond b x y ⌝ }
-{
-    if b { x } else { y }
-}
-
-// The depth of the lowest condition that has run out by this count, 0 for none; the present condition has no say in it.
-fn depth_asked(records: [Record; 5], count: Tenths) -> usize
+// The depth of the lowest condition that has run out by this count, 0 for none: what the timers ask for, wherever the drive is. "Look from Standby_z
+// upwards and stop at the first that has run out" (document 02, request (iii)): that one is the lowest.
+pub fn depth_asked(records: [Record; 5], count: Tenths) -> usize
     ensures { λ r. ⌜ (timersAsk records (count .0) ≡ byTimer r) × (r ≤ 5) ⌝ }
 {
-    let mut found = 0;
-    let mut i = 0;
-    while i < 5 {
-        let due = ran_out(count, records[i]);
-        found = pick(due, i + 1, found);
-        i += 1;
+    let mut depth = 5;
+    while 0 < depth {
+        if ran_out(count, records[depth - 1]) {
+            return depth;
+        }
+        depth -= 1;
     }
-    found
+    0
 }
 
 // Where the timers leave the power: a timer only ever lowers it.
-pub fn timed_power(records: [Record; 5], power: Power, count: Tenths) -> Power
-    ensures { λ r. ⌜ r ≡ fallen (timersAsk records (count .0)) power ⌝ }
+pub fn timed_power(asked: usize, power: Power) -> Power
+    requires { ⌜ asked ≤ 5 ⌝ }
+    ensures { λ r. ⌜ r ≡ fallen (byTimer asked) power ⌝ }
 {
-    let asked = depth_asked(records, count);
     if conditions::depth_of(power) < asked {
         Power::Low(conditions::condition_at(asked - 1), Cause::Timer)
     } else {

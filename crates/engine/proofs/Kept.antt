@@ -8,29 +8,26 @@ use Rattle.unit.specs.Units.{isOut, largestOf, withDrive, withMarks, withoutHos
 use Rattle.unit.specs.declared.Unit.{Unit}
 use Rattle.engine.specs.Engine.{tickEffect, readEffect, writeEffect, powerOnEffect}
 
-abbrev idleAfter : Bool → Unit → ℕ
-idleAfter still u = cond still (u .drive .idle .0) (counted (largestOf u) (u .drive .idle .0))
+-- The idle count that a tick reaches.
+abbrev nextCount : Unit → ℕ
+nextCount u = counted (largestOf u) (u .drive .idle .0)
 
--- Count and power move together unless they are still, and then neither does.
-moved : (still : Bool) (u : Unit)
-    → withDrive
-    (entered (cond still (u .drive .power) (fallen (timersAsk (u .drive .records) (idleAfter still u)) (u .drive .power)))
-    (withIdle (idleAfter still u) (u .drive)))
+-- Count and power each picked by whether they are still.
+abbrev movedUnless : Bool → Unit → Unit
+movedUnless still u =
+    withDrive
+    (entered (cond still (u .drive .power) (fallen (timersAsk (u .drive .records) (nextCount u)) (u .drive .power)))
+    (withIdle (cond still (u .drive .idle .0) (nextCount u)) (u .drive)))
     u
-    ≡ cond still u (withDrive (ticked (largestOf u) (u .drive)) u)
+
+-- They move together, or neither does.
+moved : (still : Bool) (u : Unit) → movedUnless still u ≡ cond still u (withDrive (ticked (largestOf u) (u .drive)) u)
 unfolding ticked
 moved true u = ap (λ d. withDrive d u) (entered-kept (u .drive))
 moved false u = refl
 
 -- Still where the tick is refused or a command is out.
-pub tick-kept : (kept : Bool) (u : Unit)
-    → withDrive
-    (entered
-    (cond (kept || isOut (u .out)) (u .drive .power)
-    (fallen (timersAsk (u .drive .records) (idleAfter (kept || isOut (u .out)) u)) (u .drive .power)))
-    (withIdle (idleAfter (kept || isOut (u .out)) u) (u .drive)))
-    u
-    ≡ cond kept u (tickEffect u)
+pub tick-kept : (kept : Bool) (u : Unit) → movedUnless (kept || isOut (u .out)) u ≡ cond kept u (tickEffect u)
 tick-kept true u = moved true u
 tick-kept false u = moved (isOut (u .out)) u
 

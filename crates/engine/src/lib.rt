@@ -1,12 +1,12 @@
 // The calls on a unit that need no START STOP UNIT and no buffer: manufacture, EPC, ticks, the medium, resets.
 ghost use mathlib.Core.Bool.{cond};
 ghost use mathlib.Core.Path.{_≡_};
-ghost use Rattle.drive.specs.Drives.{counted, timersAsk, fallen};
+ghost use Prim.Native.Nat.{_≤_};
+ghost use Rattle.drive.specs.Drives.{byTimer, fallen};
 ghost use Rattle.engine.specs.Engine.{epcEffect, epcRefused, epcOutcome, manufactureOutcome, tickOutcome, readEffect, readOutcome, writeEffect, writeOutcome, powerOnEffect, powerOnOutcome, hardResetEffect, resetOutcome};
 ghost use Rattle.unit.specs.Units.{blank};
 use conditions::Power;
 use drive::Made;
-use drive::Record;
 use drive::Tenths;
 use outcomes::Called;
 use refusals::Answer;
@@ -77,35 +77,39 @@ pub fn set_features(u: Unit, q: Registers) -> Called
 }
 
 // With a command out, or refused, neither the count nor the power moves.
-fn ticked_idle(top: Tenths, still: bool, idle: Tenths) -> Tenths
-    ensures { λ n. ⌜ n .0 ≡ cond still (idle .0) (counted (top .0) (idle .0)) ⌝ }
+fn ticked_idle(still: bool, idle: Tenths, next: Tenths) -> Tenths
+    ensures { λ n. ⌜ n .0 ≡ cond still (idle .0) (next .0) ⌝ }
 {
-    if still { idle } else { drive::count(top, idle) }
+    if still { idle } else { next }
 }
 
-fn ticked_power(still: bool, records: [Record; 5], power: Power, idle: Tenths) -> Power
-    ensures { λ p. ⌜ p ≡ cond still power (fallen (timersAsk records (idle .0)) power) ⌝ }
+fn ticked_power(still: bool, power: Power, asked: usize) -> Power
+    requires { ⌜ asked ≤ 5 ⌝ }
+    ensures { λ p. ⌜ p ≡ cond still power (fallen (byTimer asked) power) ⌝ }
 {
     if still {
         power
     } else {
-        drive::timed_power(records, power, idle)
+        drive::timed_power(asked, power)
     }
 }
 
-// A tenth of a second has passed. The drive is read before the power is known: where that is kept, the compiler then sees that nothing is entered.
+// A tenth of a second has passed. The timers are looked at before the record is tested: behind the test their settings compete for registers with what is
+// built (docs/changes/05-search.md). The drive is read before the power is known: where that is kept, the compiler then sees that nothing is entered.
 pub fn tick(u: Unit) -> Called
     ensures { λ c. ⌜ c ≡ tickOutcome u ⌝ }
 {
+    let records = u.drive.records;
+    let next = drive::count(unit::largest_of(u), u.drive.idle);
+    let asked = drive::depth_asked(records, next);
     let ok = unit::unit_ok(u);
     let d = u.drive;
-    let records = u.drive.records;
     let power = d.power;
     let out = u.out;
     let v = refusals::record_verdict(ok);
     let still = refusals::is_given(v) | unit::is_out(out);
-    let n = ticked_idle(unit::largest_of(u), still, u.drive.idle);
-    let p = ticked_power(still, records, power, n);
+    let n = ticked_idle(still, u.drive.idle, next);
+    let p = ticked_power(still, power, asked);
     outcomes::settle(v, unit::with_drive(u, drive::move_to(d, p, n)))
 }
 

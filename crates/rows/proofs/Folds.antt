@@ -1,4 +1,4 @@
--- One turn and the end of a loop over a row, for each fold: the code looks at the place i, and what is left to see is `drop i`.
+-- One turn and the end of a loop over a row, for `everyAt` and `someAt`: the code looks at the place i, and what is left to see is `drop i`.
 use mathlib.Core.Path.{_≡_}
 use mathlib.Core.Bool.{Bool, _&&_, _||_, and-assoc, or-assoc, and-true, or-false}
 use mathlib.Core.List.{List}
@@ -6,7 +6,7 @@ use Prim.Native.Nat.{ℕ, _+_, _<_, _≤_}
 use native.Mathlib.Numerals.{add-one}
 use lib.ListN.{length, getD, drop, drop-of-length-le}
 use lib.Seq.{drop-cons}
-use Rattle.rows.specs.Rows.{everyAt, someAt, foldAt}
+use Rattle.rows.specs.Rows.{everyAt, someAt}
 
 module _ {A : Type 0} where
   pub every-more : (f : ℕ → A → Bool) (l : List A) (i : ℕ) (z : A) (ok : Bool) → i < length l
@@ -22,10 +22,3 @@ module _ {A : Type 0} where
 
   pub some-end : (f : ℕ → A → Bool) (l : List A) (i : ℕ) (found : Bool) → length l ≤ i → (found || someAt f i (drop i l)) ≡ found
   some-end f l i found h = rw (drop-of-length-le l h, or-false)
-
-  pub fold-more : {B : Type 0} (f : ℕ → A → B → B) (l : List A) (i : ℕ) (z : A) (b : B) → i < length l
-      → foldAt f (i + 1) (f i (getD l i z) b) (drop (i + 1) l) ≡ foldAt f i b (drop i l)
-  fold-more f l i z b h = rw (add-one, drop-cons l i z h)
-
-  pub fold-end : {B : Type 0} (f : ℕ → A → B → B) (l : List A) (i : ℕ) (b : B) → length l ≤ i → foldAt f i b (drop i l) ≡ b
-  fold-end f l i b h = rw (drop-of-length-le l h)

@@ -3,10 +3,12 @@ use mathlib.Core.Path.{_≡_, refl}
 use mathlib.Core.Bool.{Bool, true, false, cond}
 use mathlib.Core.List.{List, [], _∷_}
 use mathlib.Core.Logic.{_⊎_, inl, inr}
-use Prim.Native.Nat.{ℕ, zero, suc, _<_}
+use Prim.Native.Nat.{ℕ, zero, suc, _<_, _≤_}
 use native.Mathlib.Nat.{not-suc-le-zero, le-of-suc-le-suc}
 use native.Mathlib.Omega.{arith}
+use lib.Dec.{ltb}
 use lib.ListN.{length, getD}
+use borrow.Author.Tests.{ltb-true, ltb-false}
 use Rattle.rows.specs.Rows.{foldAt}
 
 module _ {A : Type 0} where
@@ -14,15 +16,27 @@ module _ {A : Type 0} where
   abbrev pub say : {B : Type 0} → (ℕ → A → Bool) → (ℕ → B) → ℕ → A → B → B
   say test word at x before = cond (test at x) (word at) before
 
+  -- No place from i on passes: what a search from the last place back knows when it has come to i.
+  abbrev pub NoneFrom : (ℕ → A → Bool) → List A → A → ℕ → Type 0
+  NoneFrom test l z i = (j : ℕ) → i ≤ j → j < length l → test j (getD l j z) ≡ false
+
   -- The place passes, and no place after it does.
   pub record LastAt (test : ℕ → A → Bool) (l : List A) (z : A) (i : ℕ) : Type 0 where
     pub inside : i < length l
     pub passes : test i (getD l i z) ≡ true
-    pub none-after : (j : ℕ) → i < j → j < length l → test j (getD l j z) ≡ false
+    pub none-after : NoneFrom test l z (suc i)
 
   -- No place passes.
   abbrev pub NoneAt : (ℕ → A → Bool) → List A → A → Type 0
   NoneAt test l z = (i : ℕ) → i < length l → test i (getD l i z) ≡ false
+
+  -- A search from the last place back: where this place doesn't pass either, none from here on does.
+  pub none-back : (test : ℕ → A → Bool) (l : List A) (z : A) (i : ℕ) → test i (getD l i z) ≡ false → NoneFrom test l z (suc i) → NoneFrom test l z i
+  none-back test l z i e h j k m = by (ltb i j) refl
+    where
+      by : (b : Bool) → ltb i j ≡ b → test j (getD l j z) ≡ false
+      by true t = h j (ltb-true i j t) m
+      by false t = let same : j ≡ i = omega (arith, ltb-false i j t) in rw same e
 
   -- counting from the next place is counting from this one with the rule of the next
   fold-shift : {B : Type 0} (f : ℕ → A → B → B) (at : ℕ) (b : B) (l : List A) → foldAt f (suc at) b l ≡ foldAt (λ i. f (suc i)) at b l

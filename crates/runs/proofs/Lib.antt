@@ -25,3 +25,4 @@ pub mod WrongPrograms
 pub mod WrongSteps
 pub mod WrongCounts
 pub mod WrongStarts
+pub mod WrongSearches

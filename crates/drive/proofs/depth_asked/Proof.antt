@@ -1,29 +1,24 @@
--- After i turns, the power at the depth found is what the first i conditions ask, and the rest go on from it.
-use mathlib.Core.Path.{_≡_, refl, sym, _∙_}
-use mathlib.Core.Bool.{Bool, true, false, cond}
-use Prim.Native.Nat.{ℕ, _+_, _≤_, _-_}
+-- No condition that the search has passed has run out; so the first that has is the lowest. The measure is the depth that it has come to.
+use mathlib.Core.Path.{sym, _∙_}
+use Prim.Native.Nat.{_-_, _≤_}
 use native.Mathlib.Omega.{arith}
-use lib.ListN.{drop}
-use Rattle.rows.specs.Rows.{foldAt}
-use Rattle.rows.proofs.Folds.{fold-more, fold-end}
-use Rattle.drive.specs.Drives.{heard, timersAsk, byTimer}
-use Rattle.drive.proofs.Depths.{by-timer-more}
+use Rattle.rows.proofs.Last.{NoneFrom, none-back}
+use Rattle.drive.specs.Records.{unsupported}
+use Rattle.drive.proofs.Depths.{ranOutAt, none-asked, first-from-below}
 use Rattle.drive.proofs.depth_asked.Statement.{statement}
 use Rattle.drive.proofs.depth_asked.Tie as tie
 
-deeper : (due : Bool) (i found : ℕ) → found ≤ i → cond due (i + 1) found ≤ i + 1
-deeper true i found h = omega arith
-deeper false i found h = omega arith
-
 abbrev Inv-loop : tie.InvT-loop
-Inv-loop count records found₀ i₀ found i = (i ≤ 5) × (found ≤ i) × (foldAt (heard (count .0)) i (byTimer found) (drop i records) ≡ timersAsk records (count .0))
+Inv-loop count records depth₀ depth = (depth ≤ 5) × NoneFrom (ranOutAt (count .0)) records unsupported depth
 
 abbrev μ-loop : tie.MeasureT-loop
-μ-loop count records found₀ i₀ found i = 5 - i
+μ-loop count records depth₀ depth = depth
 
 loop-holds : tie.Need-loop-holds Inv-loop μ-loop
-unfolding timersAsk
-loop-holds c = (omega arith, omega arith, refl)
+loop-holds c = (omega arith, λ j k m. absurd (omega arith))
+
+sub-ran-out : tie.Need-sub-ran-out Inv-loop μ-loop
+sub-ran-out c = omega arith
 
 mul-ran-out : tie.Need-mul-ran-out Inv-loop μ-loop
 mul-ran-out c = omega arith
@@ -34,14 +29,21 @@ array-copy-out-ran-out c = omega arith
 ran-out-requires : tie.Need-ran-out-requires Inv-loop μ-loop
 ran-out-requires c κs = tt
 
-add-pick : tie.Need-add-pick Inv-loop μ-loop
-add-pick c = omega arith
+returns : tie.Need-returns Inv-loop μ-loop
+returns c =
+    let a = c .before .before .before .before in
+    let start = a .before .args in (
+      first-from-below (start .t1) (start .count .0) unsupported (a .loop .depth) (omega arith)
+          (record {
+            inside = omega arith;
+            passes = sym (c .before .ran-out .ensures) ∙ c .if1 .taken;
+            none-after = λ j k m. a .loop .inv .1 j (omega arith) m;
+          }),
+      a .loop .inv .0,
+    )
 
-pick-requires : tie.Need-pick-requires Inv-loop μ-loop
-pick-requires c κs = tt
-
-add-i : tie.Need-add-i Inv-loop μ-loop
-add-i c = omega arith
+sub-depth : tie.Need-sub-depth Inv-loop μ-loop
+sub-depth c = omega arith
 
 loop-less : tie.Need-loop-less Inv-loop μ-loop
 loop-less c = omega arith
@@ -51,17 +53,15 @@ loop-again c =
     let a = c .before .before .before .before in
     let start = a .before .args in (
       omega arith,
-      rw (c .pick .ensures) (deeper (c .before .ran-out .result) (a .loop .i) (a .loop .found) (a .loop .inv .1)),
-      rw (c .pick .ensures, by-timer-more (c .before .ran-out .result) (a .loop .i) (a .loop .found), c .before .ran-out .ensures)
-          (fold-more (heard (start .count .0)) (start .t1) (a .loop .i) _ (byTimer (a .loop .found)) (omega arith) ∙ a .loop .inv .2),
+      none-back (ranOutAt (start .count .0)) (start .t1) unsupported (a .loop .depth - 1) (sym (c .before .ran-out .ensures) ∙ c .if1 .left)
+          (λ j k m. a .loop .inv .1 j (omega arith) m),
     )
 
-returns : tie.Need-returns Inv-loop μ-loop
-returns c =
+returns-2 : tie.Need-returns-2 Inv-loop μ-loop
+returns-2 c =
     let a = c .before in
     let start = a .before .args in
-    let end = fold-end (heard (start .count .0)) (start .t1) (a .loop .i) (byTimer (a .loop .found)) (omega arith) in
-    (sym (a .loop .inv .2) ∙ end, omega arith)
+    (none-asked (start .t1) (start .count .0) unsupported (λ j m. a .loop .inv .1 j (omega arith) m), omega arith)
 
 pub depth-asked-spec : {M : Type 1} → statement M
 depth-asked-spec =
@@ -70,12 +70,12 @@ depth-asked-spec =
     Inv-loop
     μ-loop
     loop-holds
+    sub-ran-out
     mul-ran-out
     array-copy-out-ran-out
     ran-out-requires
-    add-pick
-    pick-requires
-    add-i
+    returns
+    sub-depth
     loop-less
     loop-again
-    returns)
+    returns-2)

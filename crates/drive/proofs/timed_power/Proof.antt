@@ -1,13 +1,12 @@
--- What the timers ask for is the power at the depth found; it is entered only if it is deeper.
+-- The power at the depth asked for is entered only if that is deeper.
+use Prim.Native.Nat.{_<_, _≤_}
 use native.Mathlib.Omega.{arith}
-use borrow.Author.Tests.{lt-ltb, le-ltb, ne-eqb}
-use Rattle.drive.proofs.Depths.{depth-by-timer}
 use borrow.Author.Needs.{needs}
+use borrow.Author.Tests.{lt-ltb, le-ltb, ne-eqb}
+use Rattle.conditions.specs.Conditions.{depth}
+use Rattle.drive.proofs.Depths.{depth-by-timer}
 use Rattle.drive.proofs.timed_power.Statement.{statement}
 use Rattle.drive.proofs.timed_power.Tie as tie
-
-depth-asked-requires : tie.Need-depth-asked-requires
-depth-asked-requires c κs = search needs
 
 depth-of-requires : tie.Need-depth-of-requires
 depth-of-requires c κs = search needs
@@ -20,28 +19,15 @@ condition-at-requires c κs = search needs
 
 returns : tie.Need-returns
 returns c =
-    let asked = c .before .before .before .depth-asked in
-    rw (
-      asked .ensures .0,
-      depth-by-timer (asked .result) (asked .ensures .1),
-      ← c .before .before .depth-of .ensures,
-      lt-ltb _ _ (c .before .if1 .taken),
-      ne-eqb (asked .result) 0 (λ e. omega arith),
-      c .condition-at .ensures,
-    )
+    let start = c .before .before .before .args in
+    let lower : depth (start .power) < start .asked = omega (arith, c .before .before .depth-of .ensures) in
+    rw (depth-by-timer (start .asked) (omega arith), lt-ltb _ _ lower, ne-eqb (start .asked) 0 (λ e. omega arith), c .condition-at .ensures)
 
 returns-2 : tie.Need-returns-2
 returns-2 c =
-    let asked = c .before .before .depth-asked in
-    rw (asked .ensures .0, depth-by-timer (asked .result) (asked .ensures .1), ← c .before .depth-of .ensures, le-ltb _ _ (c .if1 .left))
+    let start = c .before .before .args in
+    let not-lower : start .asked ≤ depth (start .power) = omega (arith, c .before .depth-of .ensures) in
+    rw (depth-by-timer (start .asked) (omega arith), le-ltb _ _ not-lower)
 
 pub timed-power-spec : {M : Type 1} → statement M
-timed-power-spec =
-    tie.close
-    (tie.spec
-    depth-asked-requires
-    depth-of-requires
-    sub-condition-at
-    condition-at-requires
-    returns
-    returns-2)
+timed-power-spec = tie.close (tie.spec depth-of-requires sub-condition-at condition-at-requires returns returns-2)

@@ -7,6 +7,15 @@ use borrow.Author.Needs.{needs}
 use Rattle.engine.proofs.tick.Statement.{statement}
 use Rattle.engine.proofs.tick.Tie as tie
 
+largest-of-requires : tie.Need-largest-of-requires
+largest-of-requires c κs = search needs
+
+count-requires : tie.Need-count-requires
+count-requires c κs = search needs
+
+depth-asked-requires : tie.Need-depth-asked-requires
+depth-asked-requires c κs = search needs
+
 unit-ok-requires : tie.Need-unit-ok-requires
 unit-ok-requires c κs = search needs
 
@@ -18,9 +27,6 @@ is-given-requires c κs = search needs
 
 is-out-requires : tie.Need-is-out-requires
 is-out-requires c κs = search needs
-
-largest-of-requires : tie.Need-largest-of-requires
-largest-of-requires c κs = search needs
 
 ticked-idle-requires : tie.Need-ticked-idle-requires
 ticked-idle-requires c κs = search needs
@@ -41,32 +47,36 @@ returns : tie.Need-returns
 unfolding tickOutcome
 returns c =
     let power = c .before .before .before in
-    let idle = power .before in
-    let still = idle .before .before in
-    let v = still .before .before in
-    let start = v .before .before .before .before in
-    let u = start .args .u in
+    let given = power .before .before .before in
+    let v = given .before in
+    let ok = v .before .before in
+    let next = ok .before .before in
+    let u = next .before .before .before .args .u in
     c .settle .ensures u (tickEffect u)
     (rw (
       c .before .with-drive .ensures,
       c .before .before .move-to .ensures,
       power .ticked-power .ensures,
-      idle .ticked-idle .ensures,
-      idle .before .largest-of .ensures,
-      still .is-out .ensures,
-      still .before .is-given .ensures,
+      power .before .ticked-idle .ensures,
+      ← ok .before .depth-asked .ensures .0,
+      next .count .ensures,
+      next .before .largest-of .ensures,
+      power .before .before .is-out .ensures,
+      given .is-given .ensures,
     ) (tick-kept (isGiven (v .record-verdict .result)) u))
-    ∙ rw (v .record-verdict .ensures, v .before .before .before .unit-ok .ensures)
+    ∙ rw (v .record-verdict .ensures, ok .unit-ok .ensures)
 
 pub tick-spec : {M : Type 1} → statement M
 tick-spec =
     tie.close
     (tie.spec
+    largest-of-requires
+    count-requires
+    depth-asked-requires
     unit-ok-requires
     record-verdict-requires
     is-given-requires
     is-out-requires
-    largest-of-requires
     ticked-idle-requires
     ticked-power-requires
     move-to-requires
