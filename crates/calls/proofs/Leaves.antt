@@ -1,5 +1,5 @@
--- What the medium's use, START STOP UNIT, the next command, REQUEST SENSE, log pages and resets leave of the condition, the settings, the marks and the
--- idle count: each accepted call has its effect, and the effect is computed field by field. What resets take from the hosts is Hosts · reset-clears.
+-- What ticks, the medium's use, START STOP UNIT, the next command, REQUEST SENSE, log pages and resets leave of the condition, the settings, the marks
+-- and the idle count: each accepted call has its effect, and the effect is computed field by field. What resets take from the hosts is Hosts · reset-clears.
 use mathlib.Core.Path.{_≡_, ap, refl, sym, _∙_}
 use mathlib.Core.Bool.{Bool, true, false, true≢false}
 use mathlib.Core.List.{List}
@@ -11,7 +11,7 @@ use Rattle.transitions.specs.Counts.{countsAfter}
 use Rattle.transitions.specs.Page.{transitionBytes}
 use Rattle.conditions.specs.declared.Power.{Power}
 use Rattle.conditions.specs.declared.Power.the-variants.{Active}
-use Rattle.drive.specs.Drives.{withCounts, savedRestored, used, poweredOn}
+use Rattle.drive.specs.Drives.{withCounts, savedRestored, ticked, used, poweredOn}
 use Rattle.drive.proofs.Ticks.{tick-records}
 use Rattle.drive.proofs.Used.{used-leaves}
 use Rattle.drive.specs.Records.{driveWellFormed}
@@ -20,13 +20,13 @@ use Rattle.refusals.specs.Refusals.{lowest}
 use Rattle.refusals.specs.declared.Answer.the-variants.{Done}
 use Rattle.refusals.specs.declared.Verdict.{Verdict}
 use Rattle.refusals.specs.declared.Verdict.the-variants.{Clear, Given}
-use Rattle.unit.specs.Units.{wellFormed, withDrive, largestOf, heldOf}
+use Rattle.unit.specs.Units.{wellFormed, isOut, withDrive, largestOf, heldOf}
 use Rattle.unit.specs.declared.Held.the-variants.{Nothing}
 use Rattle.senses.specs.Senses.{senseBytes, powerSense}
 use Rattle.unit.specs.declared.Unit.{Unit}
-use Rattle.engine.specs.Engine.{powerOnOutcome, resetOutcome}
+use Rattle.engine.specs.Engine.{tickOutcome, powerOnOutcome, resetOutcome}
 use Rattle.readouts.specs.Readouts.{toldBytes, logOutcome, transitionsOutcome, countsHanded}
-use Rattle.calls.specs.Calls.{Call, read, write, powerOn, hardReset, softReset, startStop, next, requestSense, logPage, transitionsPage, plain, outcome, step}
+use Rattle.calls.specs.Calls.{Call, tick, read, write, powerOn, hardReset, softReset, startStop, next, requestSense, logPage, transitionsPage, plain, outcome, step}
 use Rattle.calls.specs.Table.{isEpc, verdictIn}
 use Rattle.calls.specs.Described.{effect, isPowerOn}
 use Rattle.calls.proofs.Numbers.{acceptance-does, other-keeps, own-told, start-wants}
@@ -38,6 +38,14 @@ pub record Leaves (p : Power) (stop save : Bool) (v : Unit) : Type 0 where
   pub stopped : v .stopped ≡ stop
   pub unsaved : v .unsaved ≡ save
   pub idle : v .drive .idle .0 ≡ 0
+
+-- ---- ticks
+
+-- "A tick with no command out ..", "never refused but for 3": then it is the drive's tick, whatever the marks, what waits and what is held.
+pub tick-does : (u : Unit) → wellFormed u ≡ true → isOut (u .out) ≡ false
+    → (outcome u tick .said ≡ plain Done) × (step u tick ≡ withDrive (ticked (largestOf u) (u .drive)) u)
+unfolding tickOutcome lowest
+tick-does u fine none = (rw fine, rw (step, fine, none))
 
 -- ---- the medium
 

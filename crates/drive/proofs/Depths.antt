@@ -14,7 +14,7 @@ use Rattle.conditions.specs.Conditions.{conditionAt, depth}
 use Rattle.drive.specs.Drives.{ranOut, timersAsk, byTimer}
 use Rattle.conditions.proofs.Conditions.{place-at}
 
--- "enabled with timer at most the count", as a test of a row's places.
+-- "enabled with timer at most the count", as a test of a row's places. (z stands where a list has no record.)
 abbrev pub ranOutAt : ℕ → ℕ → Record → Bool
 ranOutAt count place r = ranOut count r
 
@@ -29,7 +29,8 @@ module _ (rs : List Record) (count : ℕ) (z : Record) where
   unfolding timersAsk
   none-asked = fold-none (ranOutAt count) (λ i. Low (conditionAt i) Timer) Active rs z
 
-  -- "Look from Standby_z upwards and stop at the first that has run out": with none that has run out below it, it is the lowest, and asked for.
+  -- "Look from Standby_z upwards and stop at the first that has run out": with none below it that has, it is the lowest, and asked for. Its depth is n,
+  -- its place the one before.
   pub first-from-below : (n : ℕ) → 0 < n → LastAt (ranOutAt count) rs z (n - 1) → timersAsk rs count ≡ byTimer n
   first-from-below n k h = rw (ne-eqb n 0 (λ e. omega arith)) (last-asked (n - 1) h)
 

@@ -3,11 +3,11 @@ use mathlib.Core.Path.{_≡_, refl, ap, _∙_}
 use mathlib.Core.Bool.{Bool, true, false}
 use mathlib.Core.List.{List}
 use mathlib.Core.Logic.{_↔_, _≢_, _⊎_, inl, inr, ⊎-elim}
-use Prim.Native.Nat.{ℕ, _<_, _≤_}
+use Prim.Native.Nat.{ℕ, _+_, _<_, _≤_}
 use native.Mathlib.Omega.{arith}
 use lib.Dec.{leb, ltb}
 use lib.ListN.{length, getD}
-use borrow.Author.Tests.{leb-true, le-leb, ltb-true, ltb-false}
+use borrow.Author.Tests.{leb-true, le-leb, ltb-true, ltb-false, lt-ltb, le-ltb}
 use Rattle.rows.proofs.Places.{and-left, and-right, and-both}
 use Rattle.rows.proofs.Last.{LastAt, NoneAt, last-or-none}
 use Rattle.conditions.specs.declared.Condition.{Condition}
@@ -66,7 +66,10 @@ module _ (rs : List Record) (five : length rs ≡ 5) (count : ℕ) (z : Record) 
   -- There is a lowest condition that has run out, or none has.
   pub lowest-or-none : ((c : Condition) × Lowest rs count z c) ⊎ ((c : Condition) → Runs rs count z c)
   lowest-or-none =
-      ⊎-elim (λ h. inl (conditionAt (h .0), from-last (h .0) (h .1))) (λ h. inr (λ c. h (placeOf c) (omega (arith, place-below c)))) (last-or-none (ranOutAt count) rs z)
+      ⊎-elim
+      (λ h. inl (conditionAt (h .0), from-last (h .0) (h .1)))
+      (λ h. inr (λ c. h (placeOf c) (omega (arith, place-below c))))
+      (last-or-none (ranOutAt count) rs z)
 
   ask-lowest : (c : Condition) → Lowest rs count z c → timersAsk rs count ≡ Low c Timer
   ask-lowest c h = last-asked rs count z (placeOf c) (to-last c h) ∙ rw (at-place c)
@@ -116,9 +119,17 @@ module _ (top : ℕ) (d : Drive) where
   unfolding ticked
   tick-whole = refl
 
-  -- The idle count after a tick is one more than before it; at the largest it stays.
+  -- The idle count after a tick is the next.
   pub tick-idle : ticked top d .idle .0 ≡ counted top (d .idle .0)
   tick-idle = ap (λ (e : Drive). e .idle .0) tick-whole
+
+  -- "adds 1 to the idle count, which stays at 65,535": below the largest it is one more,
+  pub tick-adds-one : d .idle .0 < top → ticked top d .idle .0 ≡ d .idle .0 + 1
+  tick-adds-one below = tick-idle ∙ rw (lt-ltb (d .idle .0) top below)
+
+  -- and at the largest it stays.
+  pub tick-at-top : top ≤ d .idle .0 → ticked top d .idle .0 ≡ d .idle .0
+  tick-at-top full = tick-idle ∙ rw (le-ltb (d .idle .0) top full)
 
   -- A tick changes no record.
   pub tick-records : ticked top d .records ≡ d .records

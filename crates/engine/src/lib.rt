@@ -94,8 +94,8 @@ fn ticked_power(still: bool, power: Power, asked: usize) -> Power
     }
 }
 
-// A tenth of a second has passed. The timers are looked at before the record is tested: behind the test their settings compete for registers with what is
-// built (docs/changes/05-search.md). The drive is read before the power is known: where that is kept, the compiler then sees that nothing is entered.
+// A tenth of a second has passed. The timers are looked at before the record is tested: after the test, stopping early saves comparisons and no loads
+// (docs/changes/05-search.md). The drive is read before the power is known: where the power stays, the compiler then sees that nothing is entered.
 pub fn tick(u: Unit) -> Called
     ensures { λ c. ⌜ c ≡ tickOutcome u ⌝ }
 {

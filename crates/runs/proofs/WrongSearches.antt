@@ -1,5 +1,5 @@
--- The wrong programs of document 02's request (iii), each refuted: the tick's search from Standby_z upwards, gone wrong in four ways. Examples g are
--- units whose Idle_A runs out at 20 ticks and Standby_z at 50.
+-- The wrong programs of document 02's request (iii), each refuted: the tick's search from Standby_z upwards, gone wrong in four ways. The unit of
+-- example g has Idle_A at 20 ticks and Standby_z at 50.
 use mathlib.Core.Bool.{_&&_, cond}
 use mathlib.Core.List.{[], _∷_}
 use mathlib.Core.Path.{_≡_, refl, ap}
@@ -27,7 +27,7 @@ use Rattle.runs.proofs.WrongPrograms.{entering, orStays}
 abbrev pub firstEnabled : StepFunction
 firstEnabled = entering (λ d n. fallen (timersAsk (d .records) largest) (d .power))
 
--- It looks from Idle_A downwards and stops: who has run out is heard only where none above it was.
+-- It looks from Idle_A downwards and stops: a condition that has run out is heard only if none above it was.
 abbrev heardFirst : ℕ → ℕ → Record → Power → Power
 heardFirst count place r asked = cond (ranOut count r && eqb (depth asked) 0) (Low (conditionAt place) Timer) asked
 
@@ -56,7 +56,8 @@ pub without-standby-z-fails-g50 : Examples withoutStandbyZ → ⊥
 unfolding computed
 without-standby-z-fails-g50 holds = let shown : _≡_ {A = ℕ} 1 5 = ap depth (holds *g50 .1) in omega arith
 
--- No example has a drive lower than its timers ask for. Demand 3 gives such a one: sent to Standby_z by a command, it stays there as Idle_A runs out.
+-- No example has a drive lower than its timers ask for, so the examples don't see this one. Demand 3 does: sent to Standby_z by a command, the drive
+-- stays there as Idle_A runs out.
 pub enters-above-fails-demand-3 : Demand3 entersAbove → ⊥
 unfolding computed
 enters-above-fails-demand-3 holds =

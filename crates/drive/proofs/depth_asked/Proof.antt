@@ -1,4 +1,5 @@
 -- No condition that the search has passed has run out; so the first that has is the lowest. The measure is the depth that it has come to.
+-- (`unsupported` stands where the row has no record.)
 use mathlib.Core.Path.{sym, _∙_}
 use Prim.Native.Nat.{_-_, _≤_}
 use native.Mathlib.Omega.{arith}
