@@ -14,10 +14,11 @@ use Rattle.conditions.specs.Conditions.{conditionAt, depth}
 use Rattle.drive.specs.Drives.{ranOut, timersAsk, byTimer}
 use Rattle.conditions.proofs.Conditions.{place-at}
 
--- "enabled with timer at most the count", as a test of a row's places. (z stands where a list has no record.)
+-- "enabled with timer at most the count", as a test of a row's places.
 abbrev pub ranOutAt : ℕ → ℕ → Record → Bool
 ranOutAt count place r = ranOut count r
 
+-- (z stands where a list has no record.)
 module _ (rs : List Record) (count : ℕ) (z : Record) where
   -- The timers ask for the last place that has run out,
   pub last-asked : (i : ℕ) → LastAt (ranOutAt count) rs z i → timersAsk rs count ≡ Low (conditionAt i) Timer

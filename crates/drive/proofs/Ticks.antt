@@ -119,15 +119,15 @@ module _ (top : ℕ) (d : Drive) where
   unfolding ticked
   tick-whole = refl
 
-  -- The idle count after a tick is the next.
+  -- The idle count after a tick is the one that the tick counts to;
   pub tick-idle : ticked top d .idle .0 ≡ counted top (d .idle .0)
   tick-idle = ap (λ (e : Drive). e .idle .0) tick-whole
 
-  -- "adds 1 to the idle count, which stays at 65,535": below the largest it is one more,
+  -- "adds 1 to the idle count, which stays at 65,535": that is one more below the largest,
   pub tick-adds-one : d .idle .0 < top → ticked top d .idle .0 ≡ d .idle .0 + 1
   tick-adds-one below = tick-idle ∙ rw (lt-ltb (d .idle .0) top below)
 
-  -- and at the largest it stays.
+  -- and the same at the largest.
   pub tick-at-top : top ≤ d .idle .0 → ticked top d .idle .0 ≡ d .idle .0
   tick-at-top full = tick-idle ∙ rw (le-ltb (d .idle .0) top full)
 

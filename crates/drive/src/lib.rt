@@ -231,7 +231,7 @@ pub fn depth_asked(records: [Record; 5], count: Tenths) -> usize
     0
 }
 
-// Where the timers leave the power that ask for this depth, 0 for none: a timer only ever lowers it.
+// Where timers that ask for this depth, 0 for none, leave the power: a timer only ever lowers it.
 pub fn timed_power(asked: usize, power: Power) -> Power
     requires { ⌜ asked ≤ 5 ⌝ }
     ensures { λ r. ⌜ r ≡ fallen (byTimer asked) power ⌝ }
