@@ -15,7 +15,7 @@ use Rattle.exchange.specs.Answered.{answeredFor}
 use Rattle.bridge.specs.Bridge.{startStopOutcome}
 use Rattle.exchange.specs.Exchange.{nextOutcome, answerOutcome}
 use Rattle.calls.specs.Calls.{outcome}
-use Rattle.calls.specs.Facts.{number-1, number-2, number-3, recovery-3, timer-3, largest-numbers, slot-3, number-4, out-read, out-start, out-next, out-sense, out-epc, number-5, none-out, number-6, number-7, number-8, byte-2, modifier-1, number-9, written-9, number-10, by-current, not-by-saved, unsupported-z, verify-sent, verify-bad, verify-stays, verify-held, verify-told, start-starts, start-stays, start-1h, goes-starts, goes-stays, epc-keeps, epc-stays, restores-saved, timer-16, timer-not-on, flag-by-saved, flag-off, idle-counts, idle-stays, fails-told, fails-held, stop-fails, goes-fails, flushes-255, flushes-stay, page-1A, page-51, page-53, page-3, page-out, counts-timer, counts-deepest, counts-use, counts-low, counts-held, counts-cause, counts-flush, counts-bad, counts-fill, counts-full, resets-keep, power-on-counts, power-on-held, Facts}
+use Rattle.calls.specs.Facts.{number-1, number-2, number-3, recovery-3, timer-3, largest-numbers, slot-3, number-4, out-read, out-start, out-next, out-sense, out-epc, number-5, none-out, number-6, number-7, number-8, byte-2, modifier-1, number-9, written-9, number-10, by-current, not-by-saved, unsupported-z, verify-sent, verify-bad, verify-stays, verify-held, verify-told, start-starts, start-stays, start-1h, goes-starts, goes-stays, epc-keeps, epc-stays, restores-saved, timer-16, timer-not-on, flag-by-saved, flag-off, idle-counts, idle-stays, fails-told, fails-held, stop-fails, goes-fails, flushes-255, flushes-stay, page-1A, page-51, page-53, page-3, page-out, counts-timer, counts-deepest, counts-use, counts-low, counts-held, counts-cause, counts-flush, counts-bad, counts-fill, counts-full, resets-keep, power-on-counts, power-on-held, every-fixed, every-saved, every-unsaved, every-none, fixed-alone, fixed-goes, Facts}
 
 pub facts : Facts outcome
 unfolding countsAfter tableOf countedIn flatOf parameterBytes transitionBytes recordWellFormed recordsWellFormed driveWellFormed timersAsk ticked used poweredOn made aborts performed hostsWellFormed wellFormed lowest epcOutcome tickOutcome readOutcome writeOutcome powerOnOutcome resetOutcome senseOutcome transitionsOutcome senseBytes wanted isListed answeredFor startStopOutcome nextOutcome answerOutcome
@@ -88,3 +88,9 @@ facts counts-full = (refl, refl, refl)
 facts resets-keep = (refl, refl, refl)
 facts power-on-counts = refl
 facts power-on-held = (refl, refl, refl)
+facts every-fixed = refl
+facts every-saved = refl
+facts every-unsaved = refl
+facts every-none = refl
+facts fixed-alone = refl
+facts fixed-goes = refl

@@ -16,6 +16,8 @@ use Rattle.drive.proofs.Ticks.{tick-records}
 use Rattle.drive.proofs.Used.{used-leaves}
 use Rattle.drive.specs.Records.{driveWellFormed}
 use Rattle.drive.specs.declared.Record.{Record}
+use Rattle.epc.specs.Epc.{performed}
+use Rattle.registers.specs.declared.Registers.{Registers}
 use Rattle.refusals.specs.Refusals.{lowest}
 use Rattle.refusals.specs.declared.Answer.the-variants.{Done}
 use Rattle.refusals.specs.declared.Verdict.{Verdict}
@@ -24,9 +26,9 @@ use Rattle.unit.specs.Units.{wellFormed, isOut, withDrive, largestOf, heldOf}
 use Rattle.unit.specs.declared.Held.the-variants.{Nothing}
 use Rattle.senses.specs.Senses.{senseBytes, powerSense}
 use Rattle.unit.specs.declared.Unit.{Unit}
-use Rattle.engine.specs.Engine.{tickOutcome, powerOnOutcome, resetOutcome}
+use Rattle.engine.specs.Engine.{epcRows, tickOutcome, powerOnOutcome, resetOutcome}
 use Rattle.readouts.specs.Readouts.{toldBytes, logOutcome, transitionsOutcome, countsHanded}
-use Rattle.calls.specs.Calls.{Call, tick, read, write, powerOn, hardReset, softReset, startStop, next, requestSense, logPage, transitionsPage, plain, outcome, step}
+use Rattle.calls.specs.Calls.{Call, setFeatures, tick, read, write, powerOn, hardReset, softReset, startStop, next, answer, requestSense, logPage, transitionsPage, plain, outcome, step}
 use Rattle.calls.specs.Table.{isEpc, verdictIn}
 use Rattle.calls.specs.Described.{effect, isPowerOn}
 use Rattle.calls.proofs.Numbers.{acceptance-does, other-keeps, own-told, start-wants}
@@ -86,26 +88,33 @@ module _ (u : Unit) (host : ℕ) where
 
 -- ---- the settings
 
+-- What holds of the records as they are, and of those that an accepted subcommand leaves, holds after every call but a power-on.
+pub after-settings : (u : Unit) (P : Call → List Record → Type 0) → ((c : Call) → P c (u .drive .records))
+    → ((q : Registers) → lowest (epcRows u q) ≡ Clear → P (setFeatures q) (performed q (u .drive) .records))
+    → (c : Call) → isPowerOn c ≡ false → P c (step u c .drive .records)
+after-settings u P kept changed = after-every (λ c v. isPowerOn c ≡ false → P c (v .drive .records)) u (record {
+  none = λ c p. kept c;
+  aborts = λ q p. kept (setFeatures q);
+  epc = λ q clear p. changed q clear;
+  ticks = λ none p. rw (tick-records (largestOf u) (u .drive)) (kept tick);
+  reads = λ host p. rw (used-leaves (u .drive) .0) (kept (read host));
+  writes = λ host p. rw (used-leaves (u .drive) .0) (kept (write host));
+  powers-on = λ p. absurd (true≢false p);
+  resets-hard = λ p. kept hardReset;
+  resets-soft = λ p. kept softReset;
+  accepts = λ host cdb t clear w p. kept (startStop host cdb);
+  sends = λ host clear p. kept (next host);
+  flushes = λ host reply q w f p. kept (answer host reply);
+  fails = λ host reply p. kept (answer host reply);
+  defers = λ host reply f p. kept (answer host reply);
+  succeeds = λ host reply q w p. kept (answer host reply);
+  tells = λ host buffer p. kept (requestSense host buffer);
+})
+
 -- No call but an EPC subcommand and a power-on changes a setting.
 pub settings-kept : (u : Unit) (c : Call) → isEpc c ≡ false → isPowerOn c ≡ false → step u c .drive .records ≡ u .drive .records
-settings-kept u = after-every (λ c v. isEpc c ≡ false → isPowerOn c ≡ false → v .drive .records ≡ u .drive .records) u (record {
-  none = λ c e p. refl;
-  aborts = λ q e p. refl;
-  epc = λ q clear e p. absurd (true≢false e);
-  ticks = λ none e p. tick-records (largestOf u) (u .drive);
-  reads = λ host e p. used-leaves (u .drive) .0;
-  writes = λ host e p. used-leaves (u .drive) .0;
-  powers-on = λ e p. absurd (true≢false p);
-  resets-hard = λ e p. refl;
-  resets-soft = λ e p. refl;
-  accepts = λ host cdb t clear w e p. refl;
-  sends = λ host clear e p. refl;
-  flushes = λ host reply q w f e p. refl;
-  fails = λ host reply e p. refl;
-  defers = λ host reply f e p. refl;
-  succeeds = λ host reply q w e p. refl;
-  tells = λ host buffer e p. refl;
-})
+settings-kept u c other p =
+    after-settings u (λ d rs. isEpc d ≡ false → rs ≡ u .drive .records) (λ d e. refl) (λ q clear e. absurd (true≢false e)) c p other
 
 -- ---- the log pages
 

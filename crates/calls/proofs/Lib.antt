@@ -10,5 +10,6 @@ pub mod OneResult
 pub mod Out
 pub mod Progress
 pub mod Reserved
+pub mod Selected
 pub mod Steps
 pub mod WellFormed

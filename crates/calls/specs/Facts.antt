@@ -1,6 +1,6 @@
 -- Values of document 01, and of document 02, that stand in one definition each, said again on a call: a table of facts beside the marked examples, under one statement of
 -- any step function. Each row is a run from a record, and what its last outcome shows.
-use mathlib.Core.Bool.{true, false}
+use mathlib.Core.Bool.{Bool, true, false}
 use mathlib.Core.List.{List, [], _∷_}
 use mathlib.Core.Path.{_≡_}
 use Prim.Native.Nat.{ℕ}
@@ -10,6 +10,7 @@ use Rattle.conditions.specs.declared.Cause.the-variants.{Command}
 use Rattle.conditions.specs.declared.Power.{Power}
 use Rattle.conditions.specs.declared.Power.the-variants.{Active, Low}
 use Rattle.drive.specs.Drives.{withCounts, madeRecord}
+use Rattle.drive.specs.Records.{unsupported}
 use Rattle.drive.specs.declared.Setting.{Setting}
 use Rattle.drive.specs.declared.Record.{Record}
 use Rattle.drive.specs.declared.Made.{Made}
@@ -35,7 +36,7 @@ use Rattle.requests.specs.declared.Failure.the-variants.{CommandSequence, NotRe
 use Rattle.requests.specs.declared.Reply.{Reply}
 use Rattle.requests.specs.declared.Reply.the-variants.{Good, Bad}
 use Rattle.calls.specs.Calls.{Call, tick, read, write, powerOn, hardReset, softReset, startStop, next, answer, requestSense, transitionsPage, plain, progressed, Outcome, StepFunction}
-use Rattle.calls.specs.Examples.{Example, IsShown, off, on, new, fresh, keeps, quiet, holding, idled, epcCall, cdbCall, done, sends}
+use Rattle.calls.specs.Examples.{Example, IsShown, off, on, new, fresh, keeps, quiet, holding, idled, epcCall, cdbCall, done, aborted, sends}
 use Rattle.calls.specs.Table.{verdictIn}
 
 -- ---- what the rows show
@@ -127,6 +128,15 @@ outUnit = withOut (OutFor 0) (waitingFor Stop (Flushing 0) fresh)
 abbrev pub withIdleA : Record → Unit
 withIdleA r = holding (r ∷ quiet ∷ quiet ∷ quiet ∷ quiet ∷ [])
 
+-- A condition's record, by whether it is saveable and changeable and by its setting, which is the default and the saved one too.
+abbrev pub allowing : Bool → Bool → Setting → Record
+allowing saves changes s =
+    madeRecord 0 (record { supported = true; saveable = saves; changeable = changes; recovery = record { 0 = 0 }; default = s })
+
+-- By the records of Idle_A and Idle_B; Idle_C is not supported.
+abbrev pub withIdleAB : Record → Record → Unit
+withIdleAB a b = holding (a ∷ b ∷ unsupported ∷ quiet ∷ quiet ∷ [])
+
 -- START STOP UNIT from host 0, by bytes 2, 3 and 4 of its CDB.
 abbrev pub ssu : ℕ → ℕ → ℕ → Call
 ssu two three four = cdbCall 0x1B 0 two three four 0
@@ -154,6 +164,7 @@ pub data Fact : Type 0 where
   fails-told fails-held stop-fails goes-fails flushes-255 flushes-stay : Fact
   page-1A page-51 page-53 page-3 page-out counts-timer counts-deepest counts-use counts-low counts-held counts-cause counts-flush counts-bad counts-fill counts-full : Fact
   resets-keep power-on-counts power-on-held : Fact
+  every-fixed every-saved every-unsaved every-none fixed-alone fixed-goes : Fact
 
 abbrev pub factOf : Fact → Example
 -- ---- "Numbers given back": each number and its sense, on a call to which its row alone applies.
@@ -368,6 +379,42 @@ factOf power-on-held = record {
   start = tallied (0 ∷ 4 ∷ 0 ∷ 0 ∷ 0 ∷ 0 ∷ 0 ∷ 0 ∷ 0 ∷ 0 ∷ 0 ∷ 0 ∷ []);
   calls = powerOn ∷ [];
   shows = entersWith Active (0 ∷ 4 ∷ 0 ∷ 0 ∷ 0 ∷ 0 ∷ 0 ∷ 0 ∷ 0 ∷ 0 ∷ 0 ∷ 0 ∷ []);
+}
+-- ---- document 02, request (iv). "For subcommands 0h, 2h and 3h FFh now selects the supported and changeable conditions": "all conditions off" on a disk
+-- with a fixed Idle_A, and Idle_C not supported.
+factOf every-fixed = record {
+  start = idled 7 (withIdleAB (allowing true false (on 10)) (allowing true true (on 20)));
+  calls = epcCall 0xFF 0x3 ∷ [];
+  shows = λ o. o ≡ done (withIdleAB (allowing true false (on 10)) (keeps (on 20) (on 20) (timerOff 20)));
+}
+-- With bit 4 one that is not selected may be not saveable;
+factOf every-saved = record {
+  start = idled 7 (withIdleAB (allowing false false (on 10)) (allowing true true (on 20)));
+  calls = epcCall 0xFF 0x13 ∷ [];
+  shows = λ o. o ≡ done (withIdleAB (allowing false false (on 10)) (keeps (on 20) (timerOff 20) (timerOff 20)));
+}
+-- "any selected one that isn't saveable still aborts everything".
+factOf every-unsaved = record {
+  start = idled 7 (withIdleAB (allowing true true (on 10)) (allowing false true (on 20)));
+  calls = epcCall 0xFF 0x13 ∷ [];
+  shows = λ o. o ≡ aborted (withIdleAB (allowing true true (on 10)) (allowing false true (on 20)));
+}
+-- "and aborts if there are none."
+factOf every-none = record {
+  start = idled 7 (holding (replicate 5 (allowing true false (on 9))));
+  calls = epcCall 0xFF 0x3 ∷ [];
+  shows = λ o. o ≡ aborted (holding (replicate 5 (allowing true false (on 9))));
+}
+-- A single Count is as before: "for 0h, 2h, 3h, any selected one not changeable" aborts, a go to does not.
+factOf fixed-alone = record {
+  start = idled 7 (withIdleA (allowing true false (on 10)));
+  calls = epcCall 0x81 0x3 ∷ [];
+  shows = λ o. o ≡ aborted (withIdleA (allowing true false (on 10)));
+}
+factOf fixed-goes = record {
+  start = idled 7 (withIdleA (allowing true false (on 10)));
+  calls = epcCall 0x81 0x1 ∷ [];
+  shows = λ o. o ≡ done (withPower (Low IdleA Command) (withIdleA (allowing true false (on 10))));
 }
 
 -- ---- the statement

@@ -11,6 +11,7 @@ use lib.Dec.{eqb, ltb}
 use lib.ListN.{length, getD}
 use borrow.Author.Tests.{eqb-true, eqb-false, eq-eqb, ne-eqb, ltb-false, le-ltb, not-false}
 use Rattle.rows.specs.Rows.{someAt}
+use Rattle.rows.proofs.Places.{and-left, and-right}
 use Rattle.rows.proofs.Some.{or-left, or-right, none-at, none-from, some-from, some-place}
 use Rattle.conditions.specs.Conditions.{placeOf}
 use Rattle.drive.specs.Records.{unsupported}
@@ -28,11 +29,12 @@ use Rattle.registers.specs.declared.Named.the-variants.{One, Every, Unlisted}
 use Rattle.epc.proofs.Clauses.{together}
 use Rattle.epc.proofs.Reserved.{namedBits, by-number, reserved-exactly}
 
--- "Count names the condition .. FFh every supported one".
-abbrev pub Names : Named → ℕ → Record → Type 0
-Names (One c) place r = place ≡ placeOf c
-Names Every place r = r .supported ≡ true
-Names Unlisted place r = ⊥
+-- "Count names the condition", by the subcommand's number; request (iv): "For subcommands 0h, 2h and 3h FFh now selects the supported and changeable
+-- conditions".
+abbrev pub Names : ℕ → Named → ℕ → Record → Type 0
+Names number (One c) place r = place ≡ placeOf c
+Names number Every place r = (r .supported ≡ true) × ((number ≡ 1 → ⊥) → r .changeable ≡ true)
+Names number Unlisted place r = ⊥
 
 -- A condition allows the subcommand: it is not "one unsupported"; "for 0h, 2h, 3h" it is changeable; with "bit 4 one" it is saveable.
 pub record Allows (lba : ℕ) (r : Record) : Type 0 where
@@ -40,8 +42,8 @@ pub record Allows (lba : ℕ) (r : Record) : Type 0 where
   pub changeable : (bits 3 0 lba ≡ 1 → ⊥) → r .changeable ≡ true
   pub saveable : bit 4 lba ≡ true → r .saveable ≡ true
 
--- What an accepted subcommand has. (z stands where a list has no record.)
-pub record Accepted (q : Registers) (rs : List Record) (z : Record) : Type 0 where
+-- The registers alone are right.
+pub record Reads (q : Registers) : Type 0 where
   -- "command or feature differs;"
   pub command : q .command ≡ 0xEF
   pub feature : q .feature ≡ 0x4A
@@ -49,34 +51,50 @@ pub record Accepted (q : Registers) (rs : List Record) (z : Record) : Type 0 whe
   pub number : bits 3 0 (q .lba) ≤ 3
   -- "a reserved bit is one;"
   pub reserved : (k : ℕ) → k < 32 → isNamed k (namedBits (bits 3 0 (q .lba))) ≡ false → bit k (q .lba) ≡ false
+
+-- What an accepted subcommand has. (z stands where a list has no record.)
+pub record Accepted (q : Registers) (rs : List Record) (z : Record) : Type 0 where
+  pub reads : Reads q
   -- "Count not listed; no selected condition,"
   pub place : ℕ
   pub within : place < length rs
-  pub names : Names (named (q .count)) place (getD rs place z)
+  pub names : Names (bits 3 0 (q .lba)) (named (q .count)) place (getD rs place z)
   -- "go to with FFh;"
   pub one : bits 3 0 (q .lba) ≡ 1 → named (q .count) ≡ Every → ⊥
   -- "or one unsupported; .. any selected one not changeable; .. any selected one not saveable."
-  pub allow : (i : ℕ) → i < length rs → Names (named (q .count)) i (getD rs i z) → Allows (q .lba) (getD rs i z)
+  pub allow : (i : ℕ) → i < length rs → Names (bits 3 0 (q .lba)) (named (q .count)) i (getD rs i z) → Allows (q .lba) (getD rs i z)
 
 -- ---- each clause and its test
 
-goes-one : (lba : ℕ) → isGoTo (subOf lba) ≡ eqb (bits 3 0 lba) 1
+pub goes-one : (lba : ℕ) → isGoTo (subOf lba) ≡ eqb (bits 3 0 lba) 1
 goes-one = by-number (λ n sub. isGoTo sub ≡ eqb n 1) refl refl refl refl (λ n above. sym (ne-eqb n 1 (omega arith)))
 
-names-selects : (sub : Sub) (n : Named) (place : ℕ) (r : Record) → Names n place r → selects sub n place r ≡ true
-names-selects sub (One c) place r e = eq-eqb place (placeOf c) e
-names-selects sub Every place r e = e
-names-selects sub Unlisted place r e = absurd e
+-- for all but go to
+pub not-goes : (lba : ℕ) → (bits 3 0 lba ≡ 1 → ⊥) → isGoTo (subOf lba) ≡ false
+not-goes lba other = goes-one lba ∙ ne-eqb (bits 3 0 lba) 1 other
 
-selects-names : (sub : Sub) (n : Named) (place : ℕ) (r : Record) → selects sub n place r ≡ true → Names n place r
-selects-names sub (One c) place r e = eqb-true place (placeOf c) e
-selects-names sub Every place r e = e
-selects-names sub Unlisted place r e = absurd (false≢true e)
+module _ (lba : ℕ) where
+  names-selects : (n : Named) (place : ℕ) (r : Record) → Names (bits 3 0 lba) n place r → selects (subOf lba) n place r ≡ true
+  names-selects (One c) place r e = eq-eqb place (placeOf c) e
+  names-selects Every place r e = rw (e .0, goes-one lba) (on (eqb (bits 3 0 lba) 1) (λ other. e .1 (eqb-false _ _ other)))
+    where
+      on : (goes : Bool) → (goes ≡ false → r .changeable ≡ true) → (goes || r .changeable) ≡ true
+      on true h = refl
+      on false h = h refl
+  names-selects Unlisted place r e = absurd e
 
-names-listed : (n : Named) (place : ℕ) (r : Record) → Names n place r → isUnlisted n ≡ false
-names-listed (One c) place r e = refl
-names-listed Every place r e = refl
-names-listed Unlisted place r e = absurd e
+  pub selects-names : (n : Named) (place : ℕ) (r : Record) → selects (subOf lba) n place r ≡ true → Names (bits 3 0 lba) n place r
+  selects-names (One c) place r e = eqb-true place (placeOf c) e
+  selects-names Every place r e = (
+    and-left (r .supported) _ e,
+    λ other. rw (not-goes lba other) at (and-right (r .supported) (isGoTo (subOf lba) || r .changeable) e),
+  )
+  selects-names Unlisted place r e = absurd (false≢true e)
+
+names-listed : (number : ℕ) (n : Named) (place : ℕ) (r : Record) → Names number n place r → isUnlisted n ≡ false
+names-listed number (One c) place r e = refl
+names-listed number Every place r e = refl
+names-listed number Unlisted place r e = absurd e
 
 is-every : (n : Named) → isEvery n ≡ true → n ≡ Every
 is-every (One c) e = absurd (false≢true e)
@@ -89,7 +107,7 @@ module _ (lba : ℕ) (r : Record) where
       let rest = or-left (not (r .supported) || not (isGoTo (subOf lba)) && not (r .changeable)) _ h in
       record {
         supported = not-false _ (or-left (not (r .supported)) _ rest);
-        changeable = λ other. not-false _ (rw (goes-one lba, ne-eqb _ _ other) at (or-right (not (r .supported)) _ rest));
+        changeable = λ other. not-false _ (rw (not-goes lba other) at (or-right (not (r .supported)) _ rest));
         saveable = λ e. not-false _ (rw e at (or-right (not (r .supported) || not (isGoTo (subOf lba)) && not (r .changeable)) _ h));
       }
 
@@ -115,29 +133,24 @@ module _ (q : Registers) (rs : List Record) (z : Record) where
   abbrev number : ℕ
   number = bits 3 0 (q .lba)
 
-  -- The codes, and "subcommand above 3h; a reserved bit is one".
-  abbrev Right : Type 0
-  Right =
-      (q .command ≡ 0xEF) × (q .feature ≡ 0x4A) × (number ≤ 3)
-      × ((k : ℕ) → k < 32 → isNamed k (namedBits number) ≡ false → bit k (q .lba) ≡ false)
-
-  read-right : misread q sub ≡ false → Right
+  read-right : misread q sub ≡ false → Reads q
   read-right h =
       let command = not (eqb (q .command) 0xEF) in
       let codes = command || not (eqb (q .feature) 0x4A) in
       let apart : (codes || (isUnknown sub || reservedInLba sub (q .lba))) ≡ false = sym (or-assoc codes (isUnknown sub) (reservedInLba sub (q .lba))) ∙ h in
-      let named-bits = sym (reserved-exactly (q .lba)) ∙ or-right codes _ apart in (
-        eqb-true _ _ (not-false _ (or-left command _ (or-left codes _ apart))),
-        eqb-true _ _ (not-false _ (or-right command _ (or-left codes _ apart))),
-        ltb-false 3 number (or-left (ltb 3 number) _ named-bits),
-        λ k below. unnamed-none 31 (namedBits number) (q .lba) (or-right (ltb 3 number) _ named-bits) k (le-of-suc-le-suc below),
-      )
+      let named-bits = sym (reserved-exactly (q .lba)) ∙ or-right codes _ apart in
+      record {
+        command = eqb-true _ _ (not-false _ (or-left command _ (or-left codes _ apart)));
+        feature = eqb-true _ _ (not-false _ (or-right command _ (or-left codes _ apart)));
+        number = ltb-false 3 number (or-left (ltb 3 number) _ named-bits);
+        reserved = λ k below. unnamed-none 31 (namedBits number) (q .lba) (or-right (ltb 3 number) _ named-bits) k (le-of-suc-le-suc below);
+      }
 
-  right-read : Right → misread q sub ≡ false
+  right-read : Reads q → misread q sub ≡ false
   right-read r =
       let named-bits : (isUnknown sub || reservedInLba sub (q .lba)) ≡ false =
-      reserved-exactly (q .lba) ∙ rw (le-ltb 3 number (r .2), unnamed-zero 31 (namedBits number) (q .lba) (λ k to. r .3 k (suc-le-suc to))) in
-      rw (eq-eqb _ _ (r .0), eq-eqb _ _ (r .1)) named-bits
+      reserved-exactly (q .lba) ∙ rw (le-ltb 3 number (r .number), unnamed-zero 31 (namedBits number) (q .lba) (λ k to. r .reserved k (suc-le-suc to))) in
+      rw (eq-eqb _ _ (r .command), eq-eqb _ _ (r .feature)) named-bits
 
   accepted-has : aborts q rs ≡ false → Accepted q rs z
   accepted-has h =
@@ -149,33 +162,30 @@ module _ (q : Registers) (rs : List Record) (z : Record) where
       let some = some-place (selects sub n) 0 rs z (not-false _ (or-right wrong nothing (or-left (wrong || nothing) _ all))) in
       let free = none-at (selectedBarred sub n (save (q .lba))) rs z (or-right (wrong || nothing) _ all) in
       record {
-        command = right .0;
-        feature = right .1;
-        number = right .2;
-        reserved = right .3;
+        reads = right;
         place = some .0;
         within = some .1;
-        names = selects-names sub n (some .0) (getD rs (some .0) z) (rw zero-add at (some .2));
+        names = selects-names (q .lba) n (some .0) (getD rs (some .0) z) (rw zero-add at (some .2));
         one = λ e all. true≢false (rw (goes-one (q .lba), eq-eqb _ _ e, all) at (or-right (isUnlisted n) _ named-one));
-        allow = λ i k e. unbarred-allows (q .lba) (getD rs i z) (rw (names-selects sub n i (getD rs i z) e) at (free i k));
+        allow = λ i k e. unbarred-allows (q .lba) (getD rs i z) (rw (names-selects (q .lba) n i (getD rs i z) e) at (free i k));
       }
 
   has-accepted : Accepted q rs z → aborts q rs ≡ false
   has-accepted a =
-      let some = some-from (selects sub n) rs z (a .place) (a .within) (names-selects sub n (a .place) (getD rs (a .place) z) (a .names)) in
+      let some = some-from (selects sub n) rs z (a .place) (a .within) (names-selects (q .lba) n (a .place) (getD rs (a .place) z) (a .names)) in
       let none = none-from (selectedBarred sub n (save (q .lba))) rs z (λ j l. free (getD rs j z) j (selects sub n j (getD rs j z)) refl (a .allow j l)) in
       sym (together q rs)
       ∙ rw (
-        right-read (a .command, a .feature, a .number, a .reserved),
-        names-listed n (a .place) (getD rs (a .place) z) (a .names),
+        right-read (a .reads),
+        names-listed number n (a .place) (getD rs (a .place) z) (a .names),
         lone (isGoTo sub) (isEvery n) refl refl,
         some,
         none,
       )
     where
-      free : (r : Record) (j : ℕ) (b : Bool) → selects sub n j r ≡ b → (Names n j r → Allows (q .lba) r)
+      free : (r : Record) (j : ℕ) (b : Bool) → selects sub n j r ≡ b → (Names number n j r → Allows (q .lba) r)
           → (b && barred (isGoTo sub) (save (q .lba)) r) ≡ false
-      free r j true e allows = allows-unbarred (q .lba) r (allows (selects-names sub n j r e))
+      free r j true e allows = allows-unbarred (q .lba) r (allows (selects-names (q .lba) n j r e))
       free r j false e allows = refl
 
       lone : (goes every : Bool) → isGoTo sub ≡ goes → isEvery n ≡ every → (goes && every) ≡ false
@@ -197,7 +207,7 @@ module _ (q : Registers) (rs : List Record) where
       on false e = absurd (none (accepted-has q rs unsupported e))
 
   pub reserved-aborts : (k : ℕ) → k < 32 → isNamed k (namedBits (bits 3 0 (q .lba))) ≡ false → bit k (q .lba) ≡ true → aborts q rs ≡ true
-  reserved-aborts k below unnamed one = unless (λ a. true≢false (sym one ∙ a .reserved k below unnamed))
+  reserved-aborts k below unnamed one = unless (λ a. true≢false (sym one ∙ a .reads .reserved k below unnamed))
 
   pub unknown-aborts : 3 < bits 3 0 (q .lba) → aborts q rs ≡ true
-  unknown-aborts above = unless (λ a. omega (arith, a .number))
+  unknown-aborts above = unless (λ a. omega (arith, a .reads .number))

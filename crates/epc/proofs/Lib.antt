@@ -4,5 +4,6 @@ pub mod Exactly
 pub mod Fields
 pub mod OneCondition
 pub mod Reserved
+pub mod Selected
 pub mod WellFormed
 pub mod Counted

@@ -51,14 +51,6 @@ reservedInLba SetTimer lba = someOne 7 6 lba || someOne 31 24 lba
 reservedInLba SetState lba = someOne 31 6 lba
 reservedInLba Unknown lba = false
 
--- Whether a subcommand with this Count selects the condition at a place: the one that Count names, or "FFh every supported one".
-abbrev pub selects : Sub → Named → ℕ → Record → Bool
-selects sub (One c) place r = eqb place (placeOf c)
-selects sub Every place r = r .supported
-selects sub Unlisted place r = false
-
--- ---- the abort
-
 abbrev pub isUnknown : Sub → Bool
 isUnknown Restore = false
 isUnknown GoTo = false
@@ -83,6 +75,18 @@ isEvery (One c) = false
 isEvery Every = true
 isEvery Unlisted = false
 
+-- ---- what is selected
+
+-- Whether a subcommand with this Count selects the condition at a place; the abort's clauses and the effect both go by this. Count names one condition,
+-- or FFh, document 02, request (iv): "For subcommands 0h, 2h and 3h FFh now selects the supported and changeable conditions". Of a go to, which aborts
+-- with FFh, document 01's "FFh every supported one" stands.
+abbrev pub selects : Sub → Named → ℕ → Record → Bool
+selects sub (One c) place r = eqb place (placeOf c)
+selects sub Every place r = r .supported && (isGoTo sub || r .changeable)
+selects sub Unlisted place r = false
+
+-- ---- the abort
+
 -- Some selected condition fails the test.
 abbrev pub selectedWithout : (Record → Bool) → Sub → Named → List Record → Bool
 selectedWithout has sub n rs = someAt (λ place r. selects sub n place r && not (has r)) 0 rs
@@ -98,13 +102,13 @@ aborts q rs =
     || reservedInLba (subOf (q .lba)) (q .lba)
     -- "Count not listed;"
     || isUnlisted (named (q .count))
-    -- "no selected condition, or one unsupported;"
+    -- "no selected condition, or one unsupported;" of FFh, request (iv): "and aborts if there are none".
     || not (someAt (selects (subOf (q .lba)) (named (q .count))) 0 rs) || selectedWithout (λ r. r .supported) (subOf (q .lba)) (named (q .count)) rs
     -- "go to with FFh;"
     || isGoTo (subOf (q .lba)) && isEvery (named (q .count))
     -- "for 0h, 2h, 3h, any selected one not changeable;"
     || not (isGoTo (subOf (q .lba))) && selectedWithout (λ r. r .changeable) (subOf (q .lba)) (named (q .count)) rs
-    -- "bit 4 one and any selected one not saveable."
+    -- "bit 4 one and any selected one not saveable." Of FFh, request (iv): "any selected one that isn't saveable still aborts everything".
     || save (q .lba) && selectedWithout (λ r. r .saveable) (subOf (q .lba)) (named (q .count)) rs
 
 -- ---- "Effect on each selected condition"

@@ -82,13 +82,14 @@ fn is_go_to(sub: Sub) -> bool
     }
 }
 
-// Whether a subcommand with this Count selects the condition at a place.
+// Whether a subcommand with this Count selects the condition at a place. The abort asks it of FFh (`look`), the change of every Count; of a single Count
+// the abort looks at the one place (`one_unfit`).
 fn selects(sub: Sub, n: Named, place: usize, r: Record) -> bool
     ensures { λ b. ⌜ b ≡ Epc.selects sub n place r ⌝ }
 {
     match n {
         Named::One(c) => place == conditions::place_of(c),
-        Named::Every => r.supported,
+        Named::Every => r.supported & (is_go_to(sub) | r.changeable),
         Named::Unlisted => false,
     }
 }
@@ -134,8 +135,12 @@ fn look(sub: Sub, save: bool, records: [Record; 5]) -> Seen
 fn every_unfit(sub: Sub, save: bool, records: [Record; 5]) -> bool
     ensures { λ b. ⌜ b ≡ Inner.unfit sub Every save records ⌝ }
 {
-    let seen = look(sub, save, records);
-    is_go_to(sub) | !seen.some | seen.barred
+    if is_go_to(sub) {
+        true
+    } else {
+        let seen = look(sub, save, records);
+        !seen.some | seen.barred
+    }
 }
 
 // At the place that is asked for the record has its say; elsewhere what was said before stays.

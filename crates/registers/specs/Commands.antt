@@ -12,7 +12,8 @@ use Rattle.registers.specs.declared.Named.the-variants.{One, Every, Unli
 abbrev pub ataCommand : ℕ → ℕ → ℕ → ℕ → Registers
 ataCommand command feature count lba = record { command = command; feature = feature; count = count; lba = lba }
 
--- "Count names the condition: 00h Standby_z, 01h Standby_y, 81h Idle_A, 82h Idle_B, 83h Idle_C, FFh every supported one".
+-- "Count names the condition: 00h Standby_z, 01h Standby_y, 81h Idle_A, 82h Idle_B, 83h Idle_C, FFh .." Which conditions FFh selects hangs on the
+-- subcommand and their records (epc/Epc · selects).
 abbrev pub countCode : Condition → ℕ
 countCode IdleA = 0x81
 countCode IdleB = 0x82

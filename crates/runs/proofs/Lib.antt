@@ -26,3 +26,4 @@ pub mod WrongSteps
 pub mod WrongCounts
 pub mod WrongStarts
 pub mod WrongSearches
+pub mod WrongSelections

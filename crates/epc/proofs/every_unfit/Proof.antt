@@ -1,21 +1,21 @@
--- Every condition: the walk's two flags, and a go to is refused.
-use mathlib.Core.Bool.{and-true}
-use Rattle.epc.specs.Epc.{isGoTo}
+-- A go to is refused; else the walk's two flags decide.
 use borrow.Author.Needs.{needs}
 use Rattle.epc.proofs.every_unfit.Statement.{statement}
 use Rattle.epc.proofs.every_unfit.Tie as tie
 
-look-requires : tie.Need-look-requires
-look-requires c κs = search needs
-
 is-go-to-requires : tie.Need-is-go-to-requires
 is-go-to-requires c κs = search needs
 
+look-requires : tie.Need-look-requires
+look-requires c κs = search needs
+
 returns : tie.Need-returns
-returns c =
+returns c = rw (← c .before .is-go-to .ensures, c .if1 .taken)
+
+returns-2 : tie.Need-returns-2
+returns-2 c =
     let a = c .before .before in
-    let seen = a .before .look .ensures in
-    rw (a .is-go-to .ensures, seen .0, seen .1, and-true (isGoTo (a .before .before .args .sub)))
+    rw (← a .before .before .is-go-to .ensures, a .before .if1 .left, a .look .ensures .0, a .look .ensures .1)
 
 pub every-unfit-spec : {M : Type 1} → statement M
-every-unfit-spec = tie.close (tie.spec look-requires is-go-to-requires returns)
+every-unfit-spec = tie.close (tie.spec is-go-to-requires look-requires returns returns-2)
