@@ -11,5 +11,6 @@ pub mod Out
 pub mod Progress
 pub mod Reserved
 pub mod Selected
+pub mod Subcommands
 pub mod Steps
 pub mod WellFormed

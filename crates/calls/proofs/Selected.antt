@@ -1,12 +1,11 @@
 -- Document 02, request (iv), over calls: when a subcommand with FFh is accepted, and what becomes of each condition; and that no call but a power-on
--- changes one that is not changeable. What epc/Selected says of the drive, said of the unit: EPC is refused by 3, 4 and 10 alone.
+-- changes one that is not changeable. It is what epc/Selected says of the drive, said of the unit.
 use mathlib.Core.Path.{_≡_, refl, sym, _∙_}
 use mathlib.Core.Bool.{Bool, true, false, _&&_, true≢false}
 use mathlib.Core.Logic.{_↔_}
 use Prim.Native.Nat.{ℕ, _<_}
 use native.Mathlib.Omega.{arith}
 use lib.ListN.{length, getD}
-use borrow.Author.Tests.{not-false}
 use Rattle.rows.proofs.Places.{and-left, and-right}
 use Rattle.bits.specs.Bits.{bits}
 use Rattle.conditions.specs.Conditions.{placeOf}
@@ -20,8 +19,8 @@ use Rattle.registers.specs.declared.Named.the-variants.{Every}
 use Rattle.epc.specs.Epc.{aborts}
 use Rattle.epc.proofs.Exactly.{Reads}
 use Rattle.epc.proofs.Selected.{EveryFits, every-exactly, alone, as-alone, alone-aborts, others-spared, unchangeable-stays}
-use Rattle.refusals.proofs.Lowest.{not-applies, clear-when}
-use Rattle.refusals.specs.declared.Refusal.the-variants.{BadRecord, CommandOut, Aborted}
+use Rattle.refusals.proofs.Lowest.{not-applies}
+use Rattle.refusals.specs.declared.Refusal.the-variants.{Aborted}
 use Rattle.refusals.specs.declared.Verdict.{Verdict}
 use Rattle.refusals.specs.declared.Verdict.the-variants.{Clear, Given}
 use Rattle.unit.specs.Units.{isOut, wellFormed, largestOf}
@@ -32,23 +31,8 @@ use Rattle.calls.specs.Calls.{Call, setFeatures, outcome, step}
 use Rattle.calls.specs.Described.{isPowerOn}
 use Rattle.calls.specs.Table.{verdictIn}
 use Rattle.calls.proofs.Leaves.{after-settings}
-use Rattle.calls.proofs.Numbers.{own-told, acceptance-does, after-refusal}
-
--- The call is not refused.
-abbrev Accepts : Unit → Registers → Type 0
-Accepts u q = verdictIn (outcome u (setFeatures q) .said) ≡ Clear
-
-module _ (u : Unit) (q : Registers) where
-  -- Of its rows 3, 4 and 10 none applies.
-  pub epc-accepted : Accepts u q ↔ ((wellFormed u ≡ true) × (isOut (u .out) ≡ false) × (aborts q (u .drive .records) ≡ false))
-  epc-accepted = (
-    λ h. let clear = sym (own-told u (setFeatures q)) ∙ h in (
-      not-false _ (not-applies (epcRows u q) BadRecord clear),
-      not-applies (epcRows u q) CommandOut clear,
-      not-applies (epcRows u q) Aborted clear,
-    ),
-    λ h. own-told u (setFeatures q) ∙ clear-when (epcRows u q) (rw (h .0, h .1, h .2)),
-  )
+use Rattle.calls.proofs.Numbers.{acceptance-does, after-refusal}
+use Rattle.calls.proofs.Subcommands.{Accepts, epc-accepted}
 
 module _ (u : Unit) (q : Registers) (z : Record) (all : named (q .count) ≡ Every) where
   -- "For subcommands 0h, 2h and 3h FFh now selects the supported and changeable conditions, and aborts if there are none. With bit 4, any selected one

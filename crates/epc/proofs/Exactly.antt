@@ -74,7 +74,7 @@ pub not-goes : (lba : ℕ) → (bits 3 0 lba ≡ 1 → ⊥) → isGoTo (subOf lb
 not-goes lba other = goes-one lba ∙ ne-eqb (bits 3 0 lba) 1 other
 
 module _ (lba : ℕ) where
-  names-selects : (n : Named) (place : ℕ) (r : Record) → Names (bits 3 0 lba) n place r → selects (subOf lba) n place r ≡ true
+  pub names-selects : (n : Named) (place : ℕ) (r : Record) → Names (bits 3 0 lba) n place r → selects (subOf lba) n place r ≡ true
   names-selects (One c) place r e = eq-eqb place (placeOf c) e
   names-selects Every place r e = rw (e .0, goes-one lba) (on (eqb (bits 3 0 lba) 1) (λ other. e .1 (eqb-false _ _ other)))
     where

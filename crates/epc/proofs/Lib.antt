@@ -5,5 +5,6 @@ pub mod Fields
 pub mod OneCondition
 pub mod Reserved
 pub mod Selected
+pub mod Settings
 pub mod WellFormed
 pub mod Counted

@@ -25,7 +25,7 @@ use Rattle.calls.specs.Table.{isEpc, verdictIn, isClear, Numbers}
 use Rattle.calls.proofs.Numbers.{numbers-given}
 use Rattle.runs.specs.Serial.{Compared, Demand3}
 use Rattle.runs.proofs.Computed.{computed}
-use Rattle.runs.proofs.WrongPrograms.{saying, leaving}
+use Rattle.runs.proofs.WrongPrograms.{saying}
 
 -- ---- the wrong programs
 
@@ -53,30 +53,29 @@ abortsFixed = abortsFor (λ lba r. not (r .changeable))
 abbrev pub looksAtAll : StepFunction
 looksAtAll = abortsFor (λ lba r. save lba && not (r .saveable))
 
+-- The record after the subcommand has changed the conditions that pass this test.
+abbrev changedWhere : (ℕ → Record → Bool) → Call → Unit → Unit
+changedWhere test c u =
+    let change : ℕ → Record → Record = λ place r. cond (test place r) (changed (subOf (lbaOf c)) (lbaOf c) r) r in
+    rested (withDrive (withRecords (mapAt change 0 (u .drive .records)) (u .drive)) u)
+
 -- It changes one that is not changeable: every supported condition.
-abbrev changesSupported : Call → List Record → List Record
-changesSupported c = mapAt (λ place r. cond (r .supported) (changed (subOf (lbaOf c)) (lbaOf c) r) r) 0
-
 abbrev pub changesFixed : StepFunction
-changesFixed u c =
-    let o = outcome u c in
-    cond (everyDone u c) (leaving (withDrive (withRecords (changesSupported c (u .drive .records)) (o .unit .drive)) (o .unit)) o) o
+changesFixed u c = cond (everyDone u c) (done (changedWhere (λ place r. r .supported) c u)) (outcome u c)
 
--- Only 10 can refuse the call, and not for its registers.
 abbrev registersRight : Registers → Bool
 registersRight q =
     eqb (q .command) 0xEF && eqb (q .feature) 0x4A && not (isUnknown (subOf (q .lba))) && not (reservedInLba (subOf (q .lba)) (q .lba))
 
+-- Only 10 can refuse the call, and not for its registers.
 abbrev isRight : Unit → Call → Bool
 isRight u c = isForEvery c && registersRight (describe c .registers) && wellFormed u && not (isOut (u .out))
 
 -- With bit 4 it passes over a selected condition that is not saveable, and changes the others.
 abbrev pub passesOver : StepFunction
 passesOver u c =
-    let lba = lbaOf c in
-    let chosen : ℕ → Record → Bool = λ place r. selects (subOf lba) Every place r && r .saveable in
-    let changes = mapAt (λ place r. cond (chosen place r) (changed (subOf lba) lba r) r) 0 (u .drive .records) in
-    cond (isRight u c && save lba && someAt chosen 0 (u .drive .records)) (done (rested (withDrive (withRecords changes (u .drive)) u))) (outcome u c)
+    let chosen : ℕ → Record → Bool = λ place r. selects (subOf (lbaOf c)) Every place r && r .saveable in
+    cond (isRight u c && save (lbaOf c) && someAt chosen 0 (u .drive .records)) (done (changedWhere chosen c u)) (outcome u c)
 
 -- One that says that it is done where this test holds of record and LBA.
 abbrev takesFor : (Unit → ℕ → Bool) → StepFunction
