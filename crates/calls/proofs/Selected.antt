@@ -70,7 +70,7 @@ module _ (u : Unit) (q : Registers) (z : Record) (all : named (q .count) ≡ Eve
     pub unselected-kept : (i : ℕ) → (before i .supported && before i .changeable) ≡ false → after q i ≡ before i
     unselected-kept i e = rw (acceptance-does u (setFeatures q) accepted .0) (others-spared q (u .drive) z all (clear .2) i e)
 
-    -- So FFh leaves of each condition what its own Count leaves, accepted or aborted.
+    -- So an accepted FFh leaves of each condition what its own Count leaves, whether that one is accepted or aborts.
     pub each-as-alone : (c : Condition) → after q (placeOf c) ≡ after (alone c q) (placeOf c)
     each-as-alone c = on (before (placeOf c) .supported && before (placeOf c) .changeable) refl
       where

@@ -1,5 +1,6 @@
--- What an accepted SET FEATURES EPC leaves, by any Count and on any unit. 0h, 2h and 3h: a condition that Count names as the table's row says, any other
--- record, the power condition and the marks as they were, the idle count 0. 1h: the named condition, no record changed.
+-- What an accepted SET FEATURES EPC leaves, by any Count and on any unit. 0h, 2h and 3h leave a condition that Count names as the table's row says, every
+-- other record, the power condition and the marks as they were, and the idle count at 0. 1h leaves the unit in the named condition and every record as it
+-- was. Each is the law on the drive, carried to the unit.
 use mathlib.Core.Path.{_≡_, refl, sym, _∙_}
 use mathlib.Core.Bool.{Bool, true, false}
 use mathlib.Core.Logic.{_↔_}

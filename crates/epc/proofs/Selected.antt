@@ -1,5 +1,6 @@
 -- Document 02, request (iv): what FFh asks of the conditions, and what becomes of each. Whether FFh is accepted is read off the law on any Count
--- (Exactly). At a place that it selects the condition's own Count selects too, and what is done there hangs on that alone.
+-- (Exactly). At a place that it selects the condition's own Count selects too, and what is done to a record hangs on whether it is selected, not by which
+-- Count.
 use mathlib.Core.Path.{_≡_, refl, sym, subst, _∙_}
 use mathlib.Core.Bool.{Bool, true, false, _&&_, true≢false}
 use mathlib.Core.List.{List}
@@ -173,7 +174,8 @@ module _ (q : Registers) (d : Drive) (z : Record) (all : named (q .count) ≡ Ev
       on : (b : Bool) → aborts (alone c q) (d .records) ≡ b → b ≡ true
       on true h = refl
       on false h =
-          let own = accepted-exactly (alone c q) (d .records) z .0 h .allow (placeOf c) within (own-named (bits 3 0 (q .lba)) c (getD (d .records) (placeOf c) z)) in
+          let here = own-named (bits 3 0 (q .lba)) c (getD (d .records) (placeOf c) z) in
+          let own = accepted-exactly (alone c q) (d .records) z .0 h .allow (placeOf c) within here in
           absurd (true≢false (sym (and-both _ _ (own .supported) (own .changeable (fit .1))) ∙ e))
 
   -- It keeps its record.

@@ -1,5 +1,6 @@
 -- Document 01, "Effect on each selected condition", in the words of its table: what an accepted subcommand leaves of a condition that Count names, by the
--- number and the bits of LBA, whatever the place and the record. Each row's bits are read off what is computed for its number.
+-- number and the bits of LBA, whatever the place and the record. It is proved number by number, from what `changed` computes. What the maker said of the
+-- condition stays (Effects · maker-stays).
 use mathlib.Core.Path.{_≡_, refl}
 use mathlib.Core.Bool.{true, false, not, _&&_}
 use mathlib.Core.Logic.{_↔_}
@@ -24,7 +25,7 @@ use Rattle.epc.proofs.Reserved.{by-number}
 abbrev pub FlagBy : ℕ → Setting → Type 0
 FlagBy lba s = s .enabled ≡ true ↔ ((bit 5 lba ≡ true) × (s .timer .0 ≡ 0 → ⊥))
 
--- The record before and after, by the subcommand's number.
+-- The settings before and after, by the subcommand's number: 0, 2 or 3. A go to changes no record.
 pub record Follows (number lba : ℕ) (r s : Record) : Type 0 where
   -- "0h": "current becomes default (bit 6 one) or saved";
   pub from-default : number ≡ 0 → bit 6 lba ≡ true → s .current ≡ r .default
@@ -80,7 +81,7 @@ module _ (lba : ℕ) where
       (λ n above other small. absurd (omega arith))
       lba
 
--- What any subcommand but a go to does to a condition that Count names, FFh or its own code.
+-- What 0h, 2h and 3h do to a condition that Count names, by FFh or by its own code.
 pub selected-follows : (q : Registers) (d : Drive) (z : Record) (i : ℕ) → (bits 3 0 (q .lba) ≡ 1 → ⊥) → bits 3 0 (q .lba) ≤ 3
     → i < length (d .records) → Names (bits 3 0 (q .lba)) (named (q .count)) i (getD (d .records) i z)
     → Follows (bits 3 0 (q .lba)) (q .lba) (getD (d .records) i z) (getD (performed q d .records) i z)

@@ -78,8 +78,8 @@ isEvery Unlisted = false
 -- ---- what is selected
 
 -- Whether a subcommand with this Count selects the condition at a place; the abort's clauses and the effect both go by this. Count names one condition,
--- or FFh, document 02, request (iv): "For subcommands 0h, 2h and 3h FFh now selects the supported and changeable conditions". Of a go to, which aborts
--- with FFh, document 01's "FFh every supported one" stands.
+-- or is FFh, of which document 02, request (iv), says: "For subcommands 0h, 2h and 3h FFh now selects the supported and changeable conditions". For a go
+-- to, which aborts with FFh, document 01's "FFh every supported one" stands.
 abbrev pub selects : Sub → Named → ℕ → Record → Bool
 selects sub (One c) place r = eqb place (placeOf c)
 selects sub Every place r = r .supported && (isGoTo sub || r .changeable)

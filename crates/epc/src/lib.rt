@@ -82,8 +82,9 @@ fn is_go_to(sub: Sub) -> bool
     }
 }
 
-// Whether a subcommand with this Count selects the condition at a place. The abort asks it of FFh (`look`), the change of every Count; of a single Count
-// the abort looks at the one place (`one_unfit`).
+// Whether a subcommand with this Count selects the condition at a place; FFh "the supported and changeable conditions" (document 02, request (iv)). The
+// abort asks it of FFh (`look`), the change of every Count; of a single Count the abort looks at the one place (`one_unfit`). A go to with FFh comes to
+// neither: `every_unfit` aborts it first.
 fn selects(sub: Sub, n: Named, place: usize, r: Record) -> bool
     ensures { λ b. ⌜ b ≡ Epc.selects sub n place r ⌝ }
 {

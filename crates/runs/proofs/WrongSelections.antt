@@ -45,11 +45,11 @@ abbrev abortsFor : (ℕ → Record → Bool) → StepFunction
 abortsFor test u c =
     cond (everyDone u c && someAt (λ place r. r .supported && test (lbaOf c) r) 0 (u .drive .records)) (aborted (rested u)) (outcome u c)
 
--- It aborts on a fixed Idle_A, as before the request: one that is not changeable,
+-- As before the request: it aborts where a supported condition is not changeable (a fixed Idle_A),
 abbrev pub abortsFixed : StepFunction
 abortsFixed = abortsFor (λ lba r. not (r .changeable))
 
--- or looks, with bit 4, at saveable of a condition that is not selected.
+-- or, with bit 4, where one is not saveable, selected or not.
 abbrev pub looksAtAll : StepFunction
 looksAtAll = abortsFor (λ lba r. save lba && not (r .saveable))
 
