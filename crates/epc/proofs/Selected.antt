@@ -101,18 +101,16 @@ module _ (q : Registers) (d : Drive) (z : Record) (i : ℕ) where
   -- A condition that is not changeable keeps its record through every subcommand that is accepted, whatever Count names.
   pub unchangeable-stays : aborts q (d .records) ≡ false → i < length (d .records) → here .changeable ≡ false
       → getD (performed q d .records) i z ≡ here
-  unchangeable-stays accepted within fixed =
-      rw (records-after q d)
-      (chosen (λ (l : List Record). getD l i z ≡ here) (isGoTo sub) _ _ (λ _. refl)
-      (λ other. place-kept (changedAt q) (d .records) i z
-      (chosen (λ (r : Record). r ≡ here) (selects sub (named (q .count)) i here) _ _
-      (λ e. absurd (true≢false (sym (changes e other) ∙ fixed)))
-      (λ _. refl))))
+  unchangeable-stays accepted within fixed = on (isGoTo sub) refl (selects sub (named (q .count)) i here) refl
     where
-      changes : selects sub (named (q .count)) i here ≡ true → isGoTo sub ≡ false → here .changeable ≡ true
-      changes e other =
-          accepted-exactly q (d .records) z .0 accepted .allow i within (selects-names (q .lba) (named (q .count)) i here e) .changeable
-          (λ one. true≢false (sym (eq-eqb (bits 3 0 (q .lba)) 1 one) ∙ sym (goes-one (q .lba)) ∙ other))
+      on : (goes : Bool) → isGoTo sub ≡ goes → (selected : Bool) → selects sub (named (q .count)) i here ≡ selected
+          → getD (performed q d .records) i z ≡ here
+      on true g selected e = rw (records-after q d, g)
+      on false g false e = unselected-stays e
+      on false g true e =
+          let own = accepted-exactly q (d .records) z .0 accepted .allow i within (selects-names (q .lba) (named (q .count)) i here e) in
+          let other : bits 3 0 (q .lba) ≡ 1 → ⊥ = λ one. true≢false (sym (goes-one (q .lba) ∙ eq-eqb _ _ one) ∙ g) in
+          absurd (true≢false (sym (own .changeable other) ∙ fixed))
 
 -- ---- "FFh": each as its own single Count
 

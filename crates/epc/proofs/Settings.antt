@@ -9,17 +9,17 @@ use native.Mathlib.Omega.{arith}
 use lib.Dec.{eqb}
 use lib.ListN.{length, getD}
 use borrow.Author.Tests.{eqb-false, ne-eqb, not-true}
-use Rattle.rows.proofs.Places.{getD-mapAt, and-left, and-right, and-both}
+use Rattle.rows.proofs.Places.{and-left, and-right, and-both}
 use Rattle.drive.specs.declared.Setting.{Setting}
 use Rattle.drive.specs.declared.Record.{Record}
 use Rattle.drive.specs.declared.Drive.{Drive}
 use Rattle.bits.specs.Bits.{bits, bit}
 use Rattle.registers.specs.Commands.{named}
 use Rattle.registers.specs.declared.Registers.{Registers}
-use Rattle.epc.specs.Epc.{subOf, changed, changedAt, performed}
-use Rattle.epc.proofs.Effects.{records-after}
+use Rattle.epc.specs.Epc.{subOf, changed, performed}
 use Rattle.epc.proofs.Exactly.{Names, not-goes, names-selects}
 use Rattle.epc.proofs.Reserved.{by-number}
+use Rattle.epc.proofs.Selected.{selected-changes}
 
 -- "flag is enable and .. timer nonzero".
 abbrev pub FlagBy : ℕ → Setting → Type 0
@@ -86,10 +86,6 @@ pub selected-follows : (q : Registers) (d : Drive) (z : Record) (i : ℕ) → (b
     → i < length (d .records) → Names (bits 3 0 (q .lba)) (named (q .count)) i (getD (d .records) i z)
     → Follows (bits 3 0 (q .lba)) (q .lba) (getD (d .records) i z) (getD (performed q d .records) i z)
 selected-follows q d z i other small within names =
-    rw (
-      records-after q d,
-      not-goes (q .lba) other,
-      getD-mapAt (changedAt q) (d .records) z z i within,
-      names-selects (q .lba) (named (q .count)) i (getD (d .records) i z) names,
-    )
-    (changed-follows (q .lba) (getD (d .records) i z) other small)
+    let here = getD (d .records) i z in
+    rw (selected-changes q d z i (not-goes (q .lba) other) within (names-selects (q .lba) (named (q .count)) i here names))
+    (changed-follows (q .lba) here other small)
