@@ -1,17 +1,13 @@
 -- The buffer that `sense`, `log` and `trans` lend: the first bytes of a longer one, all of them A5.
-use mathlib.Core.Path.{_≡_, refl, ap, _∙_}
-use mathlib.Core.List.{List, _∷_, _++_}
-use Prim.Native.Nat.{ℕ, zero, suc, _≤_}
-use native.Mathlib.Nat.{not-suc-le-zero}
+use mathlib.Core.Path.{_≡_, _∙_}
+use mathlib.Core.List.{List, _++_}
+use Prim.Native.Nat.{ℕ, _≤_}
 use native.Mathlib.Omega.{arith}
-use lib.ListN.{length, take, drop, replicate, length-replicate}
+use lib.ListN.{length, take, drop, length-replicate}
 use lib.Seq.{length-front, length-take-le, take-at}
-use Rattle.answers.specs.Answers.{bufferLength, unfilled}
-
-take-replicate : (n m b : ℕ) → n ≤ m → take n (replicate m b) ≡ replicate n b
-take-replicate zero m b h = refl
-take-replicate (suc n) zero b h = absurd (not-suc-le-zero h)
-take-replicate (suc n) (suc m) b h = ap (_∷_ b) (take-replicate n m b (omega arith))
+use Rattle.asked.proofs.Lengths.{take-replicate}
+use Rattle.asked.specs.Lengths.{bufferLength}
+use Rattle.answers.specs.Answers.{unfilled}
 
 pub has-room : (buffer : List ℕ) (n : ℕ) → buffer ≡ unfilled 0x400 → n ≤ 0x400 → n ≤ length buffer
 has-room buffer n e h = rw (e, length-replicate {A = ℕ} 0x400 0xA5) h

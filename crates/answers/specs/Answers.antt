@@ -2,7 +2,6 @@
 use mathlib.Core.Bool.{Bool, true, false, cond}
 use mathlib.Core.List.{List, [], _∷_}
 use Prim.Native.Nat.{ℕ, zero, suc}
-use lib.Dec.{ltb}
 use lib.ListN.{replicate}
 use Rattle.readouts.specs.Readouts.{Filled, senseOutcome, logOutcome, transitionsOutcome}
 use Rattle.engine.specs.Engine.{epcOutcome, tickOutcome, readOutcome, writeOutcome, powerOnOutcome, resetOutcome}
@@ -18,14 +17,16 @@ use Rattle.bridge.specs.declared.StartStopped.{StartStopped}
 use Rattle.digits.specs.Numerals.{bytesText}
 use Rattle.digits.specs.Sheets.{lineText}
 use Rattle.digits.specs.Texts.{cut}
+use Rattle.asked.specs.Lengths.{bufferLength}
 use Rattle.asked.specs.declared.CallLine.{CallLine}
-use Rattle.asked.specs.declared.CallLine.the-variants.{Plain, StartStop, Next, Answer as AnswerCall, Sense, Log, Transitions as TransitionsCall}
+use Rattle.asked.specs.declared.CallLine.the-variants.{Plain, StartStop, Next, Answer as AnswerCall, Sense, Log, Transitions as TransitionsCall, PageFaults, PageRecord}
 use Rattle.asked.specs.declared.PlainCall.{PlainCall}
 use Rattle.asked.specs.declared.PlainCall.the-variants.{Tick, Epc, Read, Write, PowerOn, HardReset, SoftReset}
 use Rattle.commands.specs.Commands.{cdbIn}
 use Rattle.words.specs.Lines.{lineIn}
 use Rattle.answers.specs.declared.Page.{Page}
 use Rattle.answers.specs.declared.Page.the-variants.{Conditions, Transitions}
+use Rattle.findings.specs.Findings.{faultsPieces, recordPieces}
 use Rattle.phrases.specs.Phrases.{calledText, acceptedText, sentText, progressText, beforeBytes}
 
 -- The unit after a call, and what is printed, piece by piece.
@@ -62,10 +63,7 @@ plainOutcome u PowerOn = powerOnOutcome u
 plainOutcome u HardReset = resetOutcome u
 plainOutcome u SoftReset = resetOutcome u
 
--- `sense H LEN`, `log LEN`, `trans LEN`: "into LEN bytes, all A5 before". A line gives no LEN above 400; the code's buffer has that many.
-abbrev pub bufferLength : ℕ → ℕ
-bufferLength len = cond (ltb len 0x400) len 0x400
-
+-- `sense H LEN`, `log LEN`, `trans LEN`: "into LEN bytes, all A5 before".
 abbrev pub unfilled : ℕ → List ℕ
 unfilled len = replicate (bufferLength len) 0xA5
 
@@ -89,7 +87,7 @@ nextResponse a = oneLine (a .unit) (sentText (a .answer))
 abbrev pub answerResponse : Replied → CallResponse
 answerResponse a = oneLine (a .unit) (progressText (a .answer))
 
--- Each call with its outcome; START STOP UNIT's bytes are those of the line itself.
+-- Each call with its outcome; START STOP UNIT's bytes, and the pairs of another maker's page, are those of the line itself.
 unfoldable pub callResponse : Unit → CallLine → List ℕ → CallResponse
 callResponse u (Plain call) text = calledResponse (plainOutcome u call)
 callResponse u (StartStop host) text = startStopResponse (startStopOutcome u host (cdbIn (lineIn text)))
@@ -98,3 +96,5 @@ callResponse u (AnswerCall host reply) text = answerResponse (answerOutcome u ho
 callResponse u (Sense host len) text = filledResponse (senseOutcome u host (unfilled len))
 callResponse u (Log len) text = filledResponse (pageOutcome Conditions u (unfilled len))
 callResponse u (TransitionsCall len) text = filledResponse (pageOutcome Transitions u (unfilled len))
+callResponse u (PageFaults len) text = record { unit = u; pieces = faultsPieces len text }
+callResponse u (PageRecord c len) text = record { unit = u; pieces = recordPieces c len text }

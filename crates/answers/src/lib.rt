@@ -1,6 +1,5 @@
 // Each call made over the face, and the line that it prints.
 ghost use mathlib.Core.Path.{_≡_};
-ghost use Prim.Native.Nat.{_≤_};
 ghost use Rattle.readouts.specs.Readouts.{senseOutcome};
 ghost use Rattle.bridge.specs.Bridge.{startStopOutcome};
 ghost use Rattle.exchange.specs.Exchange.{nextOutcome, answerOutcome};
@@ -8,11 +7,13 @@ ghost use Rattle.words.specs.Lines.{lineIn};
 ghost use Rattle.digits.specs.Sheets.{sheet, wrote, wroteAll, lineText};
 ghost use Rattle.digits.specs.Texts.{said, cut};
 ghost use Rattle.commands.specs.Commands.{cdbIn};
+ghost use Rattle.findings.specs.Findings.{faultsPieces, recordPieces};
 ghost use Rattle.phrases.specs.Phrases.{calledText, acceptedText, sentText, progressText};
 ghost use Rattle.answers.specs.Answers;
-ghost use Rattle.answers.specs.Answers.{plainOutcome, bufferLength, unfilled, filledPieces, filledResponse, pageOutcome, callResponse};
+ghost use Rattle.answers.specs.Answers.{plainOutcome, unfilled, filledPieces, filledResponse, pageOutcome, callResponse};
 use asked::CallLine;
 use asked::PlainCall;
+use conditions::Condition;
 use digits::Text;
 use outcomes::Called;
 use refusals::Answer;
@@ -155,18 +156,11 @@ fn unwritten() -> [u8; 1024]
     [0xA5u8; 1024]
 }
 
-// How much of that is lent: a script asks for no more.
-fn buffer_len(len: u32) -> usize
-    ensures { λ r. ⌜ (r ≡ bufferLength len) × (r ≤ 1024) ⌝ }
-{
-    if len < 1024 { len as usize } else { 1024 }
-}
-
 fn sense(u: Unit, host: u32, len: u32, out: &mut [u8], at: usize) -> Printed
     ensures { λ r. ⌜ (r .unit ≡ filledResponse (senseOutcome u host (unfilled len)) .unit) × (sheet (now (out .exit)) (r .at) ≡ wroteAll (sheet (now (out .entry)) at) (filledResponse (senseOutcome u host (unfilled len)) .pieces)) ⌝ }
 {
     let mut buffer = unwritten();
-    let n = buffer_len(len);
+    let n = asked::buffer_len(len);
     let c = power::request_sense(u, host, &mut buffer[..n]);
     let unit = c.unit;
     let answer = c.answer;
@@ -190,7 +184,7 @@ fn log(u: Unit, page: Page, len: u32, out: &mut [u8], at: usize) -> Printed
     ensures { λ r. ⌜ (r .unit ≡ filledResponse (pageOutcome page u (unfilled len)) .unit) × (sheet (now (out .exit)) (r .at) ≡ wroteAll (sheet (now (out .entry)) at) (filledResponse (pageOutcome page u (unfilled len)) .pieces)) ⌝ }
 {
     let mut buffer = unwritten();
-    let n = buffer_len(len);
+    let n = asked::buffer_len(len);
     let a = read_page(u, page, &mut buffer[..n]);
     Printed {
         unit: u,
@@ -198,7 +192,26 @@ fn log(u: Unit, page: Page, len: u32, out: &mut [u8], at: usize) -> Printed
     }
 }
 
-// Makes a call and writes its line; `text` has the bytes of START STOP UNIT.
+// Another maker's page is no part of the record.
+fn page_faults(u: Unit, len: u32, text: &[u8], out: &mut [u8], at: usize) -> Printed
+    ensures { λ r. ⌜ (r .unit ≡ u) × (sheet (now (out .exit)) (r .at) ≡ wroteAll (sheet (now (out .entry)) at) (faultsPieces len (now (text .entry)))) ⌝ }
+{
+    Printed {
+        unit: u,
+        at: findings::put_faults(len, text, out, at),
+    }
+}
+
+fn page_record(u: Unit, c: Condition, len: u32, text: &[u8], out: &mut [u8], at: usize) -> Printed
+    ensures { λ r. ⌜ (r .unit ≡ u) × (sheet (now (out .exit)) (r .at) ≡ wroteAll (sheet (now (out .entry)) at) (recordPieces c len (now (text .entry)))) ⌝ }
+{
+    Printed {
+        unit: u,
+        at: findings::put_record(c, len, text, out, at),
+    }
+}
+
+// Makes a call and writes its line; `text` has the bytes of START STOP UNIT, and the pairs of another maker's page.
 pub fn make(u: Unit, call: CallLine, text: &[u8], out: &mut [u8], at: usize) -> Printed
     ensures { λ r. ⌜ (r .unit ≡ callResponse u call (now (text .entry)) .unit) × (sheet (now (out .exit)) (r .at) ≡ wroteAll (sheet (now (out .entry)) at) (callResponse u call (now (text .entry)) .pieces)) ⌝ }
 {
@@ -210,5 +223,7 @@ pub fn make(u: Unit, call: CallLine, text: &[u8], out: &mut [u8], at: usize) -> 
         CallLine::Sense(host, len) => sense(u, host, len, out, at),
         CallLine::Log(len) => log(u, Page::Conditions, len, out, at),
         CallLine::Transitions(len) => log(u, Page::Transitions, len, out, at),
+        CallLine::PageFaults(len) => page_faults(u, len, text, out, at),
+        CallLine::PageRecord(c, len) => page_record(u, c, len, text, out, at),
     }
 }

@@ -1,2 +1,3 @@
+pub mod Lengths
 pub mod Offers
 pub mod Records

@@ -1,6 +1,8 @@
 // What a line of a script can ask for: a call, a part of a set-up block, or what a word says that stands alone.
 ghost use mathlib.Core.Path.{_≡_};
 ghost use Rattle.conditions.specs.Conditions.{conditionAt};
+ghost use Prim.Native.Nat.{_≤_};
+ghost use Rattle.asked.specs.Lengths.{bufferLength};
 ghost use Rattle.asked.specs.Offers;
 use conditions::Condition;
 use conditions::Power;
@@ -32,6 +34,8 @@ pub enum CallLine {
     Sense(u32, u32),
     Log(u32),
     Transitions(u32),
+    PageFaults(u32),
+    PageRecord(Condition, u32),
 }
 
 // What the line `state` sets.
@@ -95,4 +99,11 @@ pub fn condition_at(place: usize) -> Condition
     } else {
         Condition::IdleA
     }
+}
+
+// How many bytes a line's LEN lends: no line gives more than the longest buffer has.
+pub fn buffer_len(len: u32) -> usize
+    ensures { λ r. ⌜ (r ≡ bufferLength len) × (r ≤ 1024) ⌝ }
+{
+    if len < 1024 { len as usize } else { 1024 }
 }

@@ -19,6 +19,11 @@ use Rattle.readouts.proofs.request_sense.Reads as request-sense
 use Rattle.readouts.proofs.log_page.Reads as log-page
 use Rattle.readouts.proofs.transitions_page.Reads as transitions-page
 use Rattle.readouts.proofs.transition_counts.Reads as transition-counts
+use Rattle.reader.proofs.page_record.Reads as page-record
+use Rattle.reader.proofs.page_faults.Reads as page-faults
+use Rattle.faults.proofs.kind_number.Reads as kind-number
+use Rattle.faults.proofs.listed_count.Reads as listed-count
+use Rattle.conditions.proofs.place_of.Reads as place-of
 use Rattle.refusals.proofs.number.Reads as number
 use Rattle.refusals.proofs.sense_of.Reads as sense-of
 
@@ -46,6 +51,9 @@ module _ {L : Type 0} {Args : L → Type 0} where
 
 pub one-manufacture : AsksNothing manufacture.Asked × OneResult manufacture.Post
 one-manufacture = (λ κs a. tt, λ κs a x y s t. same)
+
+pub one-place-of : AsksNothing place-of.Asked × OneResult place-of.Post
+one-place-of = (λ κs a. tt, λ κs a x y s t p q. same (p .0) (q .0))
 
 -- ---- "EPC registers"
 
@@ -98,6 +106,20 @@ one-transitions-page = (λ κs a. tt, λ κs a x y s t p q. same (p .0) (q .0), 
 
 pub one-transition-counts : AsksNothing transition-counts.Asked × OneResult transition-counts.Post
 one-transition-counts = (λ κs a. tt, λ κs a x y s t. same)
+
+-- ---- document 02, request (v); of the three functions on a reader, which are proved by hand: reader/proofs/OneResult.antt
+
+pub one-page-record : AsksNothing page-record.Asked × OneResult page-record.Post
+one-page-record = (λ κs a. tt, λ κs a x y s t. same)
+
+pub one-page-faults : AsksNothing page-faults.Asked × OneResult page-faults.Post
+one-page-faults = (λ κs a. tt, λ κs a x y s t. same)
+
+pub one-listed-count : AsksNothing listed-count.Asked × OneResult listed-count.Post
+one-listed-count = (λ κs a. tt, λ κs a x y s t p q. same (p .0) (q .0))
+
+pub one-kind-number : AsksNothing kind-number.Asked × OneResult kind-number.Post
+one-kind-number = (λ κs a. tt, λ κs a x y s t. same)
 
 -- ---- "Numbers given back"
 

@@ -3,12 +3,12 @@ use mathlib.Core.Path.{_≡_, refl}
 use mathlib.Core.Bool.{Bool, true, false, cond}
 use mathlib.Core.List.{List, [], _∷_, _++_, map}
 use Prim.Native.Char.{code}
-use Prim.Native.Nat.{ℕ, zero, suc, _+_, _≤_}
+use Prim.Native.Nat.{ℕ, zero, suc, _+_, _*_, _≤_}
 use native.Mathlib.Omega.{arith}
-use lib.ListN.{length, length-append, length-replicate}
+use lib.ListN.{length, length-append, length-replicate, length-take}
 use Rattle.rows.proofs.Values.{values}
 use Rattle.digits.specs.Numerals.{hexText, decimalText, tenthsText, rightIn, padded}
-use Rattle.digits.specs.Sheets.{lineText}
+use Rattle.digits.specs.Sheets.{joined, lineText}
 use Rattle.digits.specs.Texts.{cut}
 use Rattle.digits.proofs.Digits.{cut-short, numeral-length}
 
@@ -77,3 +77,20 @@ w and ls = record { lines = rw (line-uncut w, ls .lines) }
 pub each : {f : ℕ → List ℕ} {ls : List (List ℕ)} (n : ℕ) → ((k : ℕ) → Within (f k) 127) → Uncut ls → Uncut (values f n ++ ls)
 each zero w ls = ls
 each (suc n) w ls = w 0 and each n (λ k. w (suc k)) ls
+
+-- ---- how many bytes lines have
+
+pub cut-small : (bs : List ℕ) → length (cut bs) ≤ 128
+unfolding cut
+cut-small bs = rw length-take (omega arith)
+
+-- Lines of at most 128 bytes each, one behind the other.
+abbrev pub Small : List (List ℕ) → Type 0
+Small ls = length (joined ls) ≤ 128 * length ls
+
+pub line-more : (t : List ℕ) (ls : List (List ℕ)) → Small ls → Small (lineText t ∷ ls)
+line-more t ls h = rw length-append (omega (arith, cut-small (ended t)))
+
+pub lines-small : (ts : List (List ℕ)) → Small (map lineText ts)
+lines-small [] = omega arith
+lines-small (t ∷ ts) = line-more t (map lineText ts) (lines-small ts)

@@ -23,6 +23,12 @@ pub wrote-all : (ls : List (List ℕ)) (k : ℕ) (s : Sheet) → length ls ≤ k
 unfolding wroteAll
 wrote-all ls k s h = rw (drop-of-length-le ls h)
 
+-- some lines, and then the others
+pub wrote-then : (s : Sheet) (ls more : List (List ℕ)) → wroteAll s (ls ++ more) ≡ wroteAll (wroteAll s ls) more
+unfolding wroteAll
+wrote-then s [] more = refl
+wrote-then s (bs ∷ ls) more = wrote-then (wrote s bs) ls more
+
 -- ---- pieces that all have room
 
 -- A sheet on which these bytes were written from a place on.

@@ -85,6 +85,23 @@ zero-saved false a b c h = let b-holds : b ≡ true = and-right a b (and-left (a
 abbrev makerZero : Record → Bool
 makerZero r = not (r .saveable) && not (r .changeable) && eqb (r .recovery .0) 0 && settingZero (r .default)
 
+-- "every other flag and number zero": this is that record.
+pub zero-record : (r : Record) → r .supported ≡ false → othersZero r ≡ true → r ≡ unsupported
+zero-record r none zero =
+    let kept = and-left (makerZero r && settingZero (r .saved)) (settingZero (r .current)) zero in
+    let made = and-left (makerZero r) (settingZero (r .saved)) kept in
+    let said = and-left (not (r .saveable) && not (r .changeable) && eqb (r .recovery .0) 0) (settingZero (r .default)) made in
+    let flags = and-left (not (r .saveable) && not (r .changeable)) (eqb (r .recovery .0) 0) said in
+    rw (
+      none,
+      not-true (r .saveable) (and-left (not (r .saveable)) (not (r .changeable)) flags),
+      not-true (r .changeable) (and-right (not (r .saveable)) (not (r .changeable)) flags),
+      eqb-true (r .recovery .0) 0 (and-right (not (r .saveable) && not (r .changeable)) (eqb (r .recovery .0) 0) said),
+      zero-setting (r .default) (and-right (not (r .saveable) && not (r .changeable) && eqb (r .recovery .0) 0) (settingZero (r .default)) made),
+      zero-setting (r .saved) (and-right (makerZero r) (settingZero (r .saved)) kept),
+      zero-setting (r .current) (and-right (makerZero r && settingZero (r .saved)) (settingZero (r .current)) zero),
+    )
+
 module _ (top : ℕ) (r : Record) where
   record-apart : recordWellFormed top r ≡ true → RecordFine top r
   unfolding recordWellFormed
@@ -99,21 +116,7 @@ module _ (top : ℕ) (r : Record) where
 
   -- "an unsupported condition has every other flag and number zero": it has this record.
   pub unsupported-is : recordWellFormed top r ≡ true → r .supported ≡ false → r ≡ unsupported
-  unsupported-is h none =
-      let zero : othersZero r ≡ true = rw none at (record-apart h .others) in
-      let kept = and-left (makerZero r && settingZero (r .saved)) (settingZero (r .current)) zero in
-      let made = and-left (makerZero r) (settingZero (r .saved)) kept in
-      let said = and-left (not (r .saveable) && not (r .changeable) && eqb (r .recovery .0) 0) (settingZero (r .default)) made in
-      let flags = and-left (not (r .saveable) && not (r .changeable)) (eqb (r .recovery .0) 0) said in
-      rw (
-        none,
-        not-true (r .saveable) (and-left (not (r .saveable)) (not (r .changeable)) flags),
-        not-true (r .changeable) (and-right (not (r .saveable)) (not (r .changeable)) flags),
-        eqb-true (r .recovery .0) 0 (and-right (not (r .saveable) && not (r .changeable)) (eqb (r .recovery .0) 0) said),
-        zero-setting (r .default) (and-right (not (r .saveable) && not (r .changeable) && eqb (r .recovery .0) 0) (settingZero (r .default)) made),
-        zero-setting (r .saved) (and-right (makerZero r) (settingZero (r .saved)) kept),
-        zero-setting (r .current) (and-right (makerZero r && settingZero (r .saved)) (settingZero (r .current)) zero),
-      )
+  unsupported-is h none = zero-record r none (rw none at (record-apart h .others))
 
   -- A record is well formed exactly if its parts are fine.
   pub record-fine : (recordWellFormed top r ≡ true) ↔ RecordFine top r

@@ -63,7 +63,8 @@ fn setting_zero(s: Setting) -> bool
     !s.enabled & (s.timer.0 == 0)
 }
 
-fn others_zero(r: Record) -> bool
+// Every flag and number but `supported` is zero.
+pub fn others_zero(r: Record) -> bool
     ensures { λ z. ⌜ z ≡ othersZero r ⌝ }
 {
     !r.saveable

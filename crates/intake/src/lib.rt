@@ -1,9 +1,9 @@
-// What the program reads: where its script comes from, and which of the bytes that it has read it answers next.
+// What a program reads: where its input comes from, and which of the bytes that replay has read it answers next.
 ghost use mathlib.Core.Bool.{cond};
 ghost use mathlib.Core.Path.{_≡_};
 ghost use Rattle.intake.specs.Intake.{sourceOf, clamped, isAnswered, paceNext};
 
-// Where the script comes from: standard input, or the file that an argument names. The program may be misused.
+// Where the input comes from: standard input, or the file that an argument names. The program may be misused.
 pub enum Source {
     Standard,
     File(usize),
@@ -17,7 +17,7 @@ pub struct Pace {
     pub goes: bool,
 }
 
-// Where the script comes from, by the number of arguments, the program's own name among them.
+// Where the input comes from, by the number of arguments, the program's own name among them.
 pub fn source_by(args: usize) -> Source
     ensures { λ r. ⌜ r ≡ sourceOf args ⌝ }
 {

@@ -1,10 +1,10 @@
 -- The bytes of a row of words: two a word, in the words' order. And what a copy into a row of zeros leaves.
 use mathlib.Core.Path.{_≡_, refl}
 use mathlib.Core.List.{List, [], _∷_, _++_}
-use Prim.Native.Nat.{ℕ, zero, suc, _-_, _*_}
+use Prim.Native.Nat.{ℕ, zero, suc, _-_, _*_, _<_}
 use native.Mathlib.Nat.{sub-zero, zero-sub, suc-sub-suc}
 use native.Mathlib.Omega.{arith}
-use lib.ListN.{length, drop, replicate}
+use lib.ListN.{length, getD, drop, replicate}
 use lib.Seq.{paste, take-append-seam, drop-append-add, take-length}
 use Rattle.pages.specs.Logs.{bytesOf}
 
@@ -19,6 +19,13 @@ bytes-length (w ∷ ws) = let rest = bytes-length ws in omega arith
 pub bytes-zeros : (n : ℕ) → bytesOf (replicate n 0) ≡ replicate (2 * n) 0
 bytes-zeros zero = refl
 bytes-zeros (suc n) = let two : 2 * suc n ≡ suc (suc (2 * n)) = omega arith in rw (two, bytes-zeros n)
+
+-- Each of them is a byte.
+pub bytes-small : (ws : List ℕ) (i : ℕ) → getD (bytesOf ws) i 0 < 256
+bytes-small [] i = omega arith
+bytes-small (w ∷ ws) zero = omega arith
+bytes-small (w ∷ ws) (suc zero) = omega arith
+bytes-small (w ∷ ws) (suc (suc i)) = bytes-small ws i
 
 module _ {A : Type 0} where
   pub drop-replicate : (n m : ℕ) (a : A) → drop n (replicate m a) ≡ replicate (m - n) a

@@ -6,21 +6,25 @@ use native.Mathlib.Nat.{zero-add, not-suc-le-zero, le-of-suc-le-suc}
 use native.Mathlib.Omega.{arith}
 use lib.ListN.{length, getD, replicate, getD-replicate, List·getD-append}
 use lib.Seq.{getD-append-add}
-use Rattle.conditions.proofs.Conditions.{place-below}
+use Rattle.conditions.proofs.Conditions.{place-below, place-at}
 use Rattle.conditions.specs.declared.Condition.{Condition}
 use Rattle.conditions.specs.declared.Condition.the-variants.{IdleA, IdleB, IdleC, StandbyY, StandbyZ}
 use Rattle.drive.specs.declared.Record.{Record}
-use Rattle.conditions.specs.Conditions.{placeOf}
+use Rattle.conditions.specs.Conditions.{placeOf, conditionAt}
 use Rattle.pages.specs.Logs.{namedWords, logPlace, descriptors, logWords}
 use Rattle.pages.proofs.Page.{descriptors-length}
 
 -- The table of word places: sixteen words a condition, in falling power.
-place-words : (c : Condition) → logPlace c ≡ 16 * placeOf c
+pub place-words : (c : Condition) → logPlace c ≡ 16 * placeOf c
 place-words IdleA = refl
 place-words IdleB = refl
 place-words IdleC = refl
 place-words StandbyY = refl
 place-words StandbyZ = refl
+
+-- So the condition of a place begins at sixteen times the place.
+pub place-start : (place : ℕ) → place < 5 → logPlace (conditionAt place) ≡ 16 * place
+place-start place h = place-words (conditionAt place) ∙ ap (λ (i : ℕ). 16 * i) (place-at place h)
 
 descriptor-at : (rs : List Record) (place k : ℕ) (z : Record) (d : ℕ) → place < length rs → k < 16
     → getD (descriptors rs) (16 * place + k) d ≡ getD (namedWords (getD rs place z) ++ replicate 8 0) k d

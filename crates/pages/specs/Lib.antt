@@ -1,1 +1,2 @@
 pub mod Logs
+pub mod Readings

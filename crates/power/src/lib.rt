@@ -5,6 +5,7 @@
 pub use conditions::Cause;
 pub use conditions::Condition;
 pub use conditions::Power;
+pub use conditions::place_of;
 pub use drive::Drive;
 pub use drive::Made;
 pub use drive::Millis;
@@ -57,6 +58,21 @@ pub use senses::Sense;
 // Transition counts (document 02, request (i)).
 pub use readouts::transition_counts;
 pub use readouts::transitions_page;
+
+// Another maker's log page (document 02, request (v)).
+pub use faults::Fault;
+pub use faults::FaultKind;
+pub use faults::Faults;
+pub use faults::kind_number;
+pub use faults::listed_count;
+pub use reader::Checked;
+pub use reader::PageRecord;
+pub use reader::Reader;
+pub use reader::open_page;
+pub use reader::page_faults;
+pub use reader::page_record;
+pub use reader::read_faults;
+pub use reader::read_record;
 
 // Numbers given back.
 pub use outcomes::Called;

@@ -9,7 +9,8 @@ use Rattle.refusals.specs.declared.Refusal.the-variants.{BadLength, BadH
 
 -- ---- rows that calls share
 
--- 1: "CDB not 6 bytes, sense buffer not 18, log buffer not 512"; document 02, request (i): "a page buffer not 52 bytes".
+-- 1: "CDB not 6 bytes, sense buffer not 18, log buffer not 512"; document 02, request (i): "a page buffer not 52 bytes", and request (v): "a page not
+-- 512 bytes".
 abbrev pub badLengthRow : ℕ → ℕ → Row
 badLengthRow size due = not (eqb size due) gives BadLength
 
@@ -51,6 +52,10 @@ rowsOfSense size host ok out = badLengthRow size 18 ∷ rowsOfHost host ok out
 -- A log page, which is so many bytes: 1, 3.
 abbrev pub rowsOfPage : ℕ → ℕ → Bool → List Row
 rowsOfPage due size ok = badLengthRow size due ∷ badRecordRow ok ∷ []
+
+-- A page that another maker wrote: 1.
+abbrev pub rowsOfReader : ℕ → List Row
+rowsOfReader size = badLengthRow size 512 ∷ []
 
 -- 7: "opcode not 1Bh".
 abbrev pub badOpcodeRow : ℕ → Row

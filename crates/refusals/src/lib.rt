@@ -3,7 +3,7 @@
 ghost use mathlib.Core.List.{[], _∷_};
 ghost use mathlib.Core.Path.{_≡_};
 ghost use Rattle.refusals.specs.Refusals.{numberOf, senseOf, _gives_, lowest, orElse, isGiven, answerOf};
-ghost use Rattle.refusals.specs.Verdicts.{rowsOfHost, rowsOfRecord, rowsOfEpc, rowsOfMedium, rowsOfSense, rowsOfPage, rowsOfCdb, rowsOfStartStop, rowsOfNext, rowsOfAnswer};
+ghost use Rattle.refusals.specs.Verdicts.{rowsOfHost, rowsOfRecord, rowsOfEpc, rowsOfMedium, rowsOfSense, rowsOfPage, rowsOfReader, rowsOfCdb, rowsOfStartStop, rowsOfNext, rowsOfAnswer};
 ghost use Rattle.refusals.specs.declared.SenseDue.the-variants.{WithSense};
 use senses::Sense;
 
@@ -190,6 +190,13 @@ pub fn page_verdict(due: usize, size: usize, ok: bool) -> Verdict
         given_if(size != due, Refusal::BadLength),
         record_verdict(ok),
     )
+}
+
+// A page that another maker wrote: number 1.
+pub fn reader_verdict(size: usize) -> Verdict
+    ensures { λ v. ⌜ v ≡ lowest (rowsOfReader size) ⌝ }
+{
+    given_if(size != 512, Refusal::BadLength)
 }
 
 // A CDB: numbers 6, 7 and 8.

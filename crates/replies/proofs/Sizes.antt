@@ -1,10 +1,9 @@
 -- No answer has more than 4,096 bytes. A line is cut at 128 of them: `show` has 18 lines and the table 23. The bytes that `sense`, `log` and
--- `trans` print are at most 1,024, with two digits each, between two texts that are cut too.
+-- `trans` print are at most 1,024, with two digits each, between two texts that are cut too. `faults` prints at most 64 entries, of at most 18.
 use mathlib.Core.Path.{_≡_, refl}
 use mathlib.Core.Bool.{Bool, true, false, cond, not}
 use mathlib.Core.List.{List, [], _∷_, _++_, map}
-use Prim.Native.Char.{code}
-use Prim.Native.Nat.{ℕ, _*_, _≤_}
+use Prim.Native.Nat.{ℕ, _+_, _*_, _≤_, min}
 use native.Mathlib.Omega.{arith}
 use borrow.Author.Tests.{ltb-true}
 use lib.Dec.{eqb, ltb}
@@ -24,6 +23,7 @@ use Rattle.unit.specs.Units.{heldOf, wellFormed}
 use Rattle.unit.specs.declared.Held.{Held}
 use Rattle.unit.specs.declared.Held.the-variants.{Nothing, Holds}
 use Rattle.refusals.specs.declared.Answer.{Answer}
+use Rattle.refusals.specs.declared.Answer.the-variants.{Done, Refused}
 use Rattle.outcomes.specs.declared.Called.{Called}
 use Rattle.unit.specs.declared.Unit.{Unit}
 use Rattle.refusals.specs.declared.Verdict.{Verdict}
@@ -35,8 +35,10 @@ use Rattle.digits.specs.Numerals.{bytesText}
 use Rattle.digits.specs.Sheets.{joined, lineText}
 use Rattle.digits.specs.Texts.{cut}
 use Rattle.digits.proofs.Digits.{pairs-length}
+use Rattle.digits.proofs.Lengths.{Small, cut-small, line-more, lines-small}
+use Rattle.asked.specs.Lengths.{bufferLength}
 use Rattle.asked.specs.declared.CallLine.{CallLine}
-use Rattle.asked.specs.declared.CallLine.the-variants.{Plain, StartStop, Next, Answer as AnswerCall, Sense, Log, Transitions}
+use Rattle.asked.specs.declared.CallLine.the-variants.{Plain, StartStop, Next, Answer as AnswerCall, Sense, Log, Transitions, PageFaults, PageRecord}
 use Rattle.asked.specs.declared.Line.{Line}
 use Rattle.asked.specs.declared.Line.the-variants.{Blank, Wrong, Asks, Sets, Opens, Closes, Shows, Tables}
 use Rattle.asked.specs.declared.Part.{Part}
@@ -48,29 +50,22 @@ use Rattle.commands.specs.Commands.{cdbIn}
 use Rattle.words.specs.Lines.{lineIn}
 use Rattle.script.specs.Lines.{lineOfText}
 use Rattle.table.specs.Table.{texts, tableLines}
-use Rattle.phrases.specs.Phrases.{calledText, acceptedText, sentText, progressText, beforeBytes}
+use Rattle.phrases.specs.Phrases.{refusedText, calledText, acceptedText, sentText, progressText, beforeBytes}
+use Rattle.conditions.specs.declared.Condition.{Condition}
+use Rattle.faults.specs.declared.Fault.{Fault}
+use Rattle.faults.specs.declared.Faults.{Faults}
+use Rattle.reader.specs.PageCalls.{faultsOutcome, recordOutcome}
+use Rattle.pairs.specs.Pairs.{pageOf}
+use Rattle.findings.specs.Findings.{entryText, entriesOf, listedPieces, checkedPieces, faultsPieces, foundText, recordPieces}
+use Rattle.findings.proofs.Entries.{total-within, entry-within}
 use Rattle.replies.specs.Lines.{isEnd, silent, okOrError, saysOk, inBlock, outside, response}
-use Rattle.answers.specs.Answers.{calledResponse, plainOutcome, bufferLength, unfilled, filledPieces, filledResponse, callResponse}
+use Rattle.answers.specs.Answers.{calledResponse, plainOutcome, unfilled, filledPieces, filledResponse, callResponse}
 
 -- ---- lines
-
-abbrev Small : List (List ℕ) → Type 0
-Small ls = length (joined ls) ≤ 128 * length ls
-
-cut-small : (bs : List ℕ) → length (cut bs) ≤ 128
-unfolding cut
-cut-small bs = rw length-take (omega arith)
-
-line-more : (t : List ℕ) (ls : List (List ℕ)) → Small ls → Small (lineText t ∷ ls)
-line-more t ls h = rw length-append (omega (arith, cut-small (t ++ (code "\n" ∷ []))))
 
 parts-small : (ps : List Part) (ls : List (List ℕ)) → Small ls → Small (partLines ps ++ ls)
 parts-small [] ls h = h
 parts-small (p ∷ ps) ls h = line-more (partText p) (partLines ps ++ ls) (parts-small ps ls h)
-
-lines-small : (ts : List (List ℕ)) → Small (map lineText ts)
-lines-small [] = omega arith
-lines-small (t ∷ ts) = line-more t (map lineText ts) (lines-small ts)
 
 -- ---- all that a line prints
 
@@ -158,6 +153,31 @@ filled-fits a bs h =
     rw (length-append (cut (beforeBytes a)) (joined (bytesText bs ∷ last)), length-append (bytesText bs) (joined last))
     (omega (arith, cut-small (beforeBytes a), bytes-within bs h, line-more [] [] (omega arith)))
 
+-- ---- the entries that `faults` prints
+
+entries-small : (fs : List Fault) (ls : List (List ℕ)) → length (joined (map entryText fs ++ ls)) ≤ 18 * length fs + length (joined ls)
+entries-small [] ls = omega arith
+entries-small (f ∷ fs) ls = rw length-append (omega (arith, entry-within f .bound, entries-small fs ls))
+
+listed-fits : (f : Faults) → Fits (listedPieces f)
+listed-fits f =
+    let last = lineText [] ∷ [] in
+    let most = length-take (min (f .total) 0x40) (f .listed) in
+    let rest = entries-small (entriesOf f) last in
+    rw length-append (omega (arith, total-within (f .total) .bound, line-more [] [] (omega arith)))
+
+checked-fits : (a : Answer) (f : Faults) → Fits (checkedPieces a f)
+checked-fits Done f = listed-fits f
+checked-fits (Refused r) f = line-fits (refusedText r)
+
+faults-fits : (len : ℕ) (text : List ℕ) → Fits (faultsPieces len text)
+unfolding faultsPieces
+faults-fits len text = let found = faultsOutcome (pageOf 2 len text) in checked-fits (found .answer) (found .faults)
+
+record-fits : (c : Condition) (len : ℕ) (text : List ℕ) → Fits (recordPieces c len text)
+unfolding recordPieces
+record-fits c len text = line-fits (foundText (recordOutcome (pageOf 3 len text) c))
+
 -- ---- the answer
 
 called-fits : (c : Called) → Fits (calledResponse c .pieces)
@@ -175,6 +195,8 @@ call-fits u (AnswerCall host reply) text = line-fits (progressText (answerOutcom
 call-fits u (Sense host len) text = reply-fits (senseOutcome u host (unfilled len)) (sense-within u host (unfilled len) (lent-within len))
 call-fits u (Log len) text = reply-fits (logOutcome u (unfilled len)) (log-within u (unfilled len) (lent-within len))
 call-fits u (Transitions len) text = reply-fits (transitionsOutcome u (unfilled len)) (transitions-within u (unfilled len) (lent-within len))
+call-fits u (PageFaults len) text = faults-fits len text
+call-fits u (PageRecord c len) text = record-fits c len text
 
 pub ok-fits : (good : Bool) → Fits (okOrError good)
 ok-fits good = line-fits (cond good (codes "ok") (codes "error"))

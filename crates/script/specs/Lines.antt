@@ -12,6 +12,7 @@ use Rattle.words.specs.Words.{same, wordAt}
 use Rattle.words.specs.Fields.{hasWords}
 use Rattle.asked.specs.Offers.{offered}
 use Rattle.commands.specs.Commands.{tickLine, epcLine, readLine, writeLine, resetLine, startStopLine, nextLine, answerLine, senseLine, logLine, transitionsLine}
+use Rattle.pairs.specs.Pairs.{faultsLine, recordLine}
 use Rattle.parts.specs.Parts.{conditionLine, stateLine, countsLine}
 use Rattle.hosts.specs.Hosts.{slotLine, heldLine, outLine}
 use Rattle.words.specs.Lines.{lineIn}
@@ -38,6 +39,8 @@ callEntries =
     ∷ ("sense" reads senseLine)
     ∷ ("log" reads logLine)
     ∷ ("trans" reads transitionsLine)
+    ∷ ("faults" reads faultsLine)
+    ∷ ("record" reads recordLine)
     ∷ []
 
 abbrev pub partEntries : List Entry

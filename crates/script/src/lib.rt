@@ -4,7 +4,7 @@ ghost use mathlib.Core.Path.{_≡_};
 ghost use Rattle.script.specs.Lines.{callEntries, partEntries, loneEntries, readerAt, readBy, lineOfWords, lineOfText};
 use asked::Line;
 
-// The names of calls are at places 0 to 10.
+// The names of calls are at places 0 to 12.
 fn call_at(line: &[u8], place: usize) -> Line
     ensures { λ r. ⌜ r ≡ readerAt callEntries place (now (line .entry)) ⌝ }
 {
@@ -20,6 +20,8 @@ fn call_at(line: &[u8], place: usize) -> Line
         8 => commands::sense_line(line),
         9 => commands::log_line(line),
         10 => commands::transitions_line(line),
+        11 => pairs::faults_line(line),
+        12 => pairs::record_line(line),
         _ => Line::Wrong,
     }
 }
@@ -82,9 +84,9 @@ fn read_words(line: &[u8]) -> Line
     let place = words::name_at(
         line,
         0,
-        b"tick epc read write reset ssu next answer sense log trans",
+        b"tick epc read write reset ssu next answer sense log trans faults record",
     );
-    if place < 11 {
+    if place < 13 {
         call_at(line, place)
     } else {
         read_in_block(line)

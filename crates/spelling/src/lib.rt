@@ -152,7 +152,7 @@ fn spell_settings(t: Text, r: Record) -> Text
     spell_setting(saved, r.current)
 }
 
-fn spell_record(t: Text, r: Record) -> Text
+pub fn spell_record(t: Text, r: Record) -> Text
     ensures { λ s. ⌜ said s ≡ cut (said t ++ recordWords r) ⌝ }
 {
     let recovery = r.recovery;

@@ -24,9 +24,9 @@ use Rattle.requests.specs.declared.Target.{Target}
 use Rattle.requests.specs.declared.Target.the-variants.{Stop, Start, GoTo}
 use Rattle.unit.specs.declared.Unit.{Unit}
 use Rattle.words.specs.Codes.{codes}
-use Rattle.digits.specs.Numerals.{decimalText, rightIn, pairs}
+use Rattle.digits.specs.Numerals.{pairs}
 use Rattle.digits.proofs.Lengths.{Within, whole, looser, _then_, either, decimal, tenths, at-right, at-left, ended, none, each}
-use Rattle.table.specs.Rows.{yesText, secondsText, settingText, recordText, isRunning, leftText, recordRow, rowText}
+use Rattle.table.specs.Rows.{yesText, secondsText, settingText, recordText, recoveryText, isRunning, leftText, recordRow, rowText}
 use Rattle.table.specs.Below.{flagText, outText, targetText, immedText, stageText, slotText, heldText, hostText}
 use Rattle.table.specs.Counts.{countHead, countText, countAt}
 use Rattle.table.specs.Table.{headText, ruleText, headAt, markAt, texts, tableLines}
@@ -43,7 +43,7 @@ seconds n = at-right (tenths n)
 setting : (s : Setting) → Within (settingText s) 16
 setting s = either (s .enabled) (whole (codes "  on")) (whole (codes " off")) then seconds (s .timer .0)
 
-settings : (r : Record) → Within (recordText r) 63
+pub settings : (r : Record) → Within (recordText r) 63
 settings r =
     yes (r .supported) then yes (r .saveable) then yes (r .changeable)
     then setting (r .default) then setting (r .saved) then setting (r .current)
@@ -51,13 +51,13 @@ settings r =
 left : (s : Setting) (place : ℕ) (d : Drive) → Within (leftText s place d) 14
 left s place d = either (isRunning s place d) (whole (codes " *") then seconds (s .timer .0 - d .idle .0)) (whole (codes "             -"))
 
-recovery : (n : ℕ) → Within (rightIn 13 (decimalText n)) 13
-recovery n = at-right (looser (omega arith) (decimal n))
+pub recovery : (r : Record) → Within (recoveryText r) 13
+recovery r = at-right (looser (omega arith) (decimal (r .recovery .0)))
 
 record-row : (d : Drive) (place : ℕ) (r : Record) → Within (recordRow d place r) 101
 record-row d place r =
     at-left (label (eqb (depth (d .power)) (place + 1)) (conditionAt place))
-    then settings r then left (r .current) place d then recovery (r .recovery .0)
+    then settings r then left (r .current) place d then recovery r
 
 row : (d : Drive) (k : ℕ) → Within (rowText d k) 127
 row d zero = looser (omega arith) (mark (eqb (depth (d .power)) 0) then whole (codes "Active"))

@@ -40,6 +40,10 @@ recordText r =
     yesText (r .supported) ++ yesText (r .saveable) ++ yesText (r .changeable)
     ++ settingText (r .default) ++ settingText (r .saved) ++ settingText (r .current)
 
+-- Milliseconds: 4294967295, the largest, has 10 places.
+abbrev pub recoveryText : Record → List ℕ
+recoveryText r = rightIn 13 (decimalText (r .recovery .0))
+
 -- A timer runs if it is enabled and names a condition below the present one: of any other, "nothing moves" when it has run out.
 abbrev pub isRunning : Setting → ℕ → Drive → Bool
 isRunning current place d = current .enabled && leb (depth (d .power)) place
@@ -59,7 +63,7 @@ labelText present c = padded 11 (markText present ++ nameText c)
 abbrev pub recordRow : Drive → ℕ → Record → List ℕ
 recordRow d place r =
     labelText (eqb (depth (d .power)) (place + 1)) (conditionAt place)
-    ++ recordText r ++ leftText (r .current) place d ++ rightIn 13 (decimalText (r .recovery .0))
+    ++ recordText r ++ leftText (r .current) place d ++ recoveryText r
 
 abbrev pub activeRow : Drive → List ℕ
 activeRow d = markText (eqb (depth (d .power)) 0) ++ codes "Active"

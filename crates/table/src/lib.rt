@@ -10,7 +10,7 @@ ghost use Rattle.table.specs.Below;
 ghost use Rattle.table.specs.Below.{outText, targetText, stageText, requestText, slotText, senseHeldText, heldText, hostText};
 ghost use Rattle.table.specs.Counts.{countText, rowName, columnsText, countRow, countAt};
 ghost use Rattle.table.specs.Rows;
-ghost use Rattle.table.specs.Rows.{isRunning, nameText, yesText, secondsText, settingText, recordText, leftText, labelText, recordRow, activeRow, rowText};
+ghost use Rattle.table.specs.Rows.{isRunning, nameText, yesText, secondsText, settingText, recordText, recoveryText, leftText, labelText, recordRow, activeRow, rowText};
 ghost use Rattle.table.specs.Table;
 ghost use Rattle.table.specs.Table.{belowAt, texts, tableLines};
 use conditions::Condition;
@@ -30,7 +30,7 @@ use unit::Unit;
 
 // ---- a condition's row
 
-fn put_name(t: Text, c: Condition) -> Text
+pub fn put_name(t: Text, c: Condition) -> Text
     ensures { λ r. ⌜ said r ≡ cut (said t ++ nameText c) ⌝ }
 {
     match c {
@@ -63,7 +63,7 @@ fn put_setting(t: Text, s: Setting) -> Text
     put_seconds(on, timer.0)
 }
 
-fn put_record(t: Text, r: Record) -> Text
+pub fn put_record(t: Text, r: Record) -> Text
     ensures { λ s. ⌜ said s ≡ cut (said t ++ recordText r) ⌝ }
 {
     let default = r.default;
@@ -71,6 +71,14 @@ fn put_record(t: Text, r: Record) -> Text
     let current = r.current;
     let flags = put_yes(put_yes(put_yes(t, r.supported), r.saveable), r.changeable);
     put_setting(put_setting(put_setting(flags, default), saved), current)
+}
+
+// What a condition needs to recover, at the right end of 13 places.
+pub fn put_recovery(t: Text, r: Record) -> Text
+    ensures { λ s. ⌜ said s ≡ cut (said t ++ recoveryText r) ⌝ }
+{
+    let recovery = r.recovery;
+    digits::put_right(t, digits::put_decimal(digits::empty(), recovery.0), 13)
 }
 
 // A timer runs if it is enabled and names a condition below the present one.
@@ -121,12 +129,11 @@ fn record_row(d: Drive, place: usize, r: Record) -> Text
     ensures { λ s. ⌜ said s ≡ cut (recordRow d place r) ⌝ }
 {
     let current = r.current;
-    let recovery = r.recovery;
     let power = d.power;
     let present = conditions::depth_of(power) == place + 1;
     let settings = put_record(label(present, conditions::condition_at(place)), r);
     let left = put_left(settings, current, place, d);
-    digits::put_right(left, digits::put_decimal(digits::empty(), recovery.0), 13)
+    put_recovery(left, r)
 }
 
 fn active_row(d: Drive) -> Text

@@ -108,7 +108,7 @@ pub fn line_end(text: &[u8], from: usize) -> usize
 }
 
 // The first word from `from` on.
-fn next_word(line: &[u8], from: usize) -> Word
+pub fn next_word(line: &[u8], from: usize) -> Word
     ensures { λ r. ⌜ (r .at ≡ from + blanks (drop from (now (line .entry)))) × (r .len ≡ wordLength (drop (r .at) (now (line .entry)))) ⌝ }
 {
     let at = scan(line, from, Seek::WordStart);
@@ -116,17 +116,25 @@ fn next_word(line: &[u8], from: usize) -> Word
     Word { at, len: end - at }
 }
 
+// The place behind the first k words.
+pub fn after_words(line: &[u8], k: usize) -> usize
+    ensures { λ r. ⌜ (words (drop r (now (line .entry))) ≡ drop k (words (now (line .entry)))) × (r ≤ length (now (line .entry))) ⌝ }
+{
+    let mut from = 0;
+    let mut i = 0;
+    while i < k {
+        let w = next_word(line, from);
+        from = w.at + w.len;
+        i += 1;
+    }
+    from
+}
+
 // The word of that number, from 0.
 fn word_at(line: &[u8], k: usize) -> Word
     ensures { λ r. ⌜ (bytesAt r (now (line .entry)) ≡ wordAt k (now (line .entry))) × (r .at + r .len ≤ length (now (line .entry))) ⌝ }
 {
-    let mut w = next_word(line, 0);
-    let mut i = 0;
-    while i < k {
-        w = next_word(line, w.at + w.len);
-        i += 1;
-    }
-    w
+    next_word(line, after_words(line, k))
 }
 
 // How many words the line has.
@@ -208,7 +216,8 @@ fn digit(b: u8) -> u32
     16
 }
 
-fn hex(w: &[u8], top: u32) -> Number
+// The number that these bytes spell, if it is at most `top`.
+pub fn hex(w: &[u8], top: u32) -> Number
     ensures { λ r. ⌜ r ≡ wordNumber top (now (w .entry)) ⌝ }
 {
     let none = Number {
@@ -238,7 +247,7 @@ fn hex(w: &[u8], top: u32) -> Number
     }
 }
 
-// The number that the word of that number spells, if it is at most `top`.
+// The number that the word of that number spells.
 pub fn number_at(line: &[u8], k: usize, top: u32) -> Number
     ensures { λ r. ⌜ r ≡ wordNumber top (wordAt k (now (line .entry))) ⌝ }
 {

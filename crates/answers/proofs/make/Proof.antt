@@ -58,6 +58,18 @@ enum-known-call-7 c = c .match .keys7
 log-requires-2 : tie.Need-log-requires-2
 log-requires-2 c κs = tt
 
+enum-known-call-8 : tie.Need-enum-known-call-8
+enum-known-call-8 c = c .match .keys8
+
+page-faults-requires : tie.Need-page-faults-requires
+page-faults-requires c κs = tt
+
+enum-known-call-9 : tie.Need-enum-known-call-9
+enum-known-call-9 c = c .match .keys9
+
+page-record-requires : tie.Need-page-record-requires
+page-record-requires c κs = tt
+
 same-length : tie.Need-same-length
 same-length c = c .before .before .put-told .kept .1 .0
 
@@ -125,6 +137,24 @@ returns-7 c =
     let put = c .before .before in
     rw (put .before .before .before .call7 .given .1) (put .log2 .ensures)
 
+same-length-8 : tie.Need-same-length-8
+same-length-8 c = c .before .before .page-faults .kept .1 .1 .1 .0
+
+returns-8 : tie.Need-returns-8
+unfolding callResponse
+returns-8 c =
+    let put = c .before .before in
+    rw (put .before .before .before .call8 .given .1) (put .page-faults .ensures)
+
+same-length-9 : tie.Need-same-length-9
+same-length-9 c = c .before .before .page-record .kept .1 .1 .1 .1 .0
+
+returns-9 : tie.Need-returns-9
+unfolding callResponse
+returns-9 c =
+    let put = c .before .before in
+    rw (put .before .before .before .call9 .given .1) (put .page-record .ensures)
+
 pub make-spec : {M : Type 1} → statement M
 make-spec =
     tie.close
@@ -147,6 +177,10 @@ make-spec =
     log-requires
     enum-known-call-7
     log-requires-2
+    enum-known-call-8
+    page-faults-requires
+    enum-known-call-9
+    page-record-requires
     same-length
     returns
     same-length-2
@@ -160,4 +194,8 @@ make-spec =
     same-length-6
     returns-6
     same-length-7
-    returns-7)
+    returns-7
+    same-length-8
+    returns-8
+    same-length-9
+    returns-9)

@@ -38,6 +38,12 @@ log-line-requires c κs = tt
 transitions-line-requires : tie.Need-transitions-line-requires
 transitions-line-requires c κs = tt
 
+faults-line-requires : tie.Need-faults-line-requires
+faults-line-requires c κs = tt
+
+record-line-requires : tie.Need-record-line-requires
+record-line-requires c κs = tt
+
 returns : tie.Need-returns
 returns c = rw (c .before .match .keys1) (c .tick-line .ensures)
 
@@ -72,7 +78,13 @@ returns-11 : tie.Need-returns-11
 returns-11 c = rw (c .before .match .keys11) (c .transitions-line .ensures)
 
 returns-12 : tie.Need-returns-12
-returns-12 c = let a = c .before .before .args in past-end callEntries (a .place) (now (a .line)) (c .match .rest)
+returns-12 c = rw (c .before .match .keys12) (c .faults-line .ensures)
+
+returns-13 : tie.Need-returns-13
+returns-13 c = rw (c .before .match .keys13) (c .record-line .ensures)
+
+returns-14 : tie.Need-returns-14
+returns-14 c = let a = c .before .before .args in past-end callEntries (a .place) (now (a .line)) (c .match .rest)
 
 pub call-at-spec : {M : Type 1} → statement M
 call-at-spec =
@@ -89,6 +101,8 @@ call-at-spec =
     sense-line-requires
     log-line-requires
     transitions-line-requires
+    faults-line-requires
+    record-line-requires
     returns
     returns-2
     returns-3
@@ -100,4 +114,6 @@ call-at-spec =
     returns-9
     returns-10
     returns-11
-    returns-12)
+    returns-12
+    returns-13
+    returns-14)

@@ -1,8 +1,7 @@
--- The columns, one after another; what a condition needs to recover has room.
+-- The columns, one after another.
 use mathlib.Core.List.{[]}
 use borrow.Author.Needs.{needs}
 use Rattle.digits.proofs.Digits.{put-after}
-use Rattle.digits.proofs.Lengths.{decimal-whole}
 use Rattle.table.proofs.record_row.Statement.{statement}
 use Rattle.table.proofs.record_row.Tie as tie
 
@@ -24,23 +23,15 @@ put-record-requires c κs = tt
 put-left-requires : tie.Need-put-left-requires
 put-left-requires c κs = tt
 
-empty-requires : tie.Need-empty-requires
-empty-requires c κs = tt
-
-put-decimal-requires : tie.Need-put-decimal-requires
-put-decimal-requires c κs = tt
-
-put-right-requires : tie.Need-put-right-requires
-put-right-requires c κs = tt
+put-recovery-requires : tie.Need-put-recovery-requires
+put-recovery-requires c κs = tt
 
 returns : tie.Need-returns
 returns c =
-    let a = c .before .before .before in
+    let a = c .before in
     let b = a .before .before in
     let labelled = rw (b .before .condition-at .ensures, b .before .before .depth-of .ensures) at (b .label .ensures) in
-    let recovers = rw (c .before .before .empty .ensures, decimal-whole) at (c .before .put-decimal .ensures) in
-    put-after [] _ _ (put-after [] _ _ (put-after [] _ _ labelled (a .before .put-record .ensures)) (a .put-left .ensures))
-    (rw recovers at (c .put-right .ensures))
+    put-after [] _ _ (put-after [] _ _ (put-after [] _ _ labelled (a .before .put-record .ensures)) (a .put-left .ensures)) (c .put-recovery .ensures)
 
 pub record-row-spec : {M : Type 1} → statement M
 record-row-spec =
@@ -52,7 +43,5 @@ record-row-spec =
     label-requires
     put-record-requires
     put-left-requires
-    empty-requires
-    put-decimal-requires
-    put-right-requires
+    put-recovery-requires
     returns)

@@ -1,8 +1,8 @@
 -- The code's test is the definition's.
 use native.Mathlib.Omega.{arith}
 use borrow.Author.Tests.{lt-ltb, le-ltb}
-use Rattle.answers.proofs.buffer_len.Statement.{statement}
-use Rattle.answers.proofs.buffer_len.Tie as tie
+use Rattle.asked.proofs.buffer_len.Statement.{statement}
+use Rattle.asked.proofs.buffer_len.Tie as tie
 
 returns : tie.Need-returns
 returns c = (rw (lt-ltb _ _ (c .if1 .taken)), omega arith)
