@@ -10,13 +10,13 @@ use borrow.Author.Tests.{eqb-true, eq-eqb, leb-true, le-leb, ltb-true, ltb-false
 use lib.Dec.{eqb, leb, ltb}
 use lib.ListN.{length, getD, List·getD-map}
 use lib.Seq.{ext-getD}
-use Rattle.rows.proofs.Places.{and-left, and-right, and-both, every-from, every-at}
-use Rattle.rows.proofs.Some.{or-left, or-right}
+use Rattle.rows.proofs.Places.{and-right, and-both, every-from, every-at}
+use Rattle.rows.proofs.Some.{or-left}
 use Rattle.bits.specs.Bits.{bit, someOne}
 use Rattle.conditions.specs.Conditions.{falling, placeOf, conditionAt}
 use Rattle.conditions.specs.declared.Condition.{Condition}
 use Rattle.conditions.specs.declared.Condition.the-variants.{IdleA}
-use Rattle.conditions.proofs.Conditions.{place-below, at-place, place-at}
+use Rattle.conditions.proofs.Conditions.{place-below, at-place}
 use Rattle.drive.specs.declared.Setting.{Setting}
 use Rattle.drive.specs.declared.Record.{Record}
 use Rattle.drive.specs.Records.{largest, othersZero, settingWellFormed, recordWellFormed, recordsWellFormed}

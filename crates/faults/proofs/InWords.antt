@@ -1,6 +1,6 @@
 -- The tests of a record and of a setting in other words than their definitions', and the bits that are read and the kinds' numbers once more from the
 -- papers.
-use mathlib.Core.Path.{_≡_, refl, sym, ap, _∙_}
+use mathlib.Core.Path.{_≡_, refl, sym, ap}
 use mathlib.Core.Bool.{Bool, Bool·beq, true, false, not, _&&_, true≢false}
 use mathlib.Core.List.{List, [], _∷_, map}
 use mathlib.Core.Logic.{_⊎_, inl, inr, _↔_}

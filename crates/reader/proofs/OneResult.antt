@@ -9,7 +9,6 @@ use prog.Wp.{Heap}
 use ghost.Atoms.{Atoms}
 use contract.Monad.{Fun, fact}
 use denote.Ref.{now}
-use denote.Triple.Clauses.{Clauses}
 use Rattle.conditions.specs.Conditions.{conditionAt}
 use Rattle.reader.specs.PageCalls.{recordOutcome, faultsOutcome}
 use Rattle.reader.specs.declared.Checked.{Checked}

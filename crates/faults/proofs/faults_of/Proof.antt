@@ -1,11 +1,10 @@
 -- After each turn the faults of the conditions so far are noted; then those of the words after the conditions; and their numbers stand for the listing.
 use mathlib.Core.Path.{_≡_, refl, ap, sym, _∙_}
-use mathlib.Core.List.{List, [], _++_, map}
+use mathlib.Core.List.{List, [], _++_}
 use Prim.Native.Nat.{ℕ, _+_, _-_, _*_, _≤_}
 use native.Mathlib.Omega.{arith}
 use denote.Ref.{now}
 use Rattle.faults.specs.declared.Fault.{Fault}
-use Rattle.faults.specs.declared.Faults.{Faults}
 use Rattle.faults.specs.Inner.{soFar, noted, nonzeroFrom}
 use Rattle.faults.specs.Listing.{firstWithBlanks, faultsFrom, faultsOf}
 use Rattle.faults.proofs.Given.{gathered-given}
