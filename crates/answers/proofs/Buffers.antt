@@ -1,4 +1,4 @@
--- The buffer that `sense`, `log` and `trans` lend: the first bytes of a longer one, all of them A5.
+-- The buffer that `sense`, `log`, `trans` and `page` lend: the first bytes of a longer one, all of them A5.
 use mathlib.Core.Path.{_≡_, _∙_}
 use mathlib.Core.List.{List, _++_}
 use Prim.Native.Nat.{ℕ, _≤_}

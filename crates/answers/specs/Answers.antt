@@ -1,10 +1,11 @@
 -- The format page, "Calls": what each call leaves of the unit, and the pieces of the line that it prints. Assumes nothing.
 use mathlib.Core.Bool.{Bool, true, false, cond}
-use mathlib.Core.List.{List, [], _∷_}
+use mathlib.Core.List.{List, [], _∷_, map}
 use Prim.Native.Nat.{ℕ, zero, suc}
 use lib.ListN.{replicate}
-use Rattle.readouts.specs.Readouts.{Filled, senseOutcome, logOutcome, transitionsOutcome}
-use Rattle.engine.specs.Engine.{epcOutcome, tickOutcome, readOutcome, writeOutcome, powerOnOutcome, resetOutcome}
+use Rattle.drive.specs.Drives.{makerOf}
+use Rattle.readouts.specs.Readouts.{Filled, senseOutcome, logOutcome, newPageOutcome, transitionsOutcome}
+use Rattle.engine.specs.Engine.{manufactureOutcome, epcOutcome, tickOutcome, readOutcome, writeOutcome, powerOnOutcome, resetOutcome}
 use Rattle.refusals.specs.declared.Answer.{Answer}
 use Rattle.refusals.specs.declared.Answer.the-variants.{Done, Refused}
 use Rattle.outcomes.specs.declared.Called.{Called}
@@ -19,13 +20,13 @@ use Rattle.digits.specs.Sheets.{lineText}
 use Rattle.digits.specs.Texts.{cut}
 use Rattle.asked.specs.Lengths.{bufferLength}
 use Rattle.asked.specs.declared.CallLine.{CallLine}
-use Rattle.asked.specs.declared.CallLine.the-variants.{Plain, StartStop, Next, Answer as AnswerCall, Sense, Log, Transitions as TransitionsCall, PageFaults, PageRecord}
+use Rattle.asked.specs.declared.CallLine.the-variants.{Plain, StartStop, Next, Answer as AnswerCall, Sense, Log, Transitions as TransitionsCall, NewPage, PageFaults, PageRecord}
 use Rattle.asked.specs.declared.PlainCall.{PlainCall}
 use Rattle.asked.specs.declared.PlainCall.the-variants.{Tick, Epc, Read, Write, PowerOn, HardReset, SoftReset}
 use Rattle.commands.specs.Commands.{cdbIn}
 use Rattle.words.specs.Lines.{lineIn}
 use Rattle.answers.specs.declared.Page.{Page}
-use Rattle.answers.specs.declared.Page.the-variants.{Conditions, Transitions}
+use Rattle.answers.specs.declared.Page.the-variants.{Conditions, Transitions, Descriptors}
 use Rattle.findings.specs.Findings.{faultsPieces, recordPieces}
 use Rattle.phrases.specs.Phrases.{calledText, acceptedText, sentText, progressText, beforeBytes}
 
@@ -63,7 +64,7 @@ plainOutcome u PowerOn = powerOnOutcome u
 plainOutcome u HardReset = resetOutcome u
 plainOutcome u SoftReset = resetOutcome u
 
--- `sense H LEN`, `log LEN`, `trans LEN`: "into LEN bytes, all A5 before".
+-- `sense H LEN`, `log LEN`, `trans LEN`, `page P LEN`: "into LEN bytes, all A5 before".
 abbrev pub unfilled : ℕ → List ℕ
 unfilled len = replicate (bufferLength len) 0xA5
 
@@ -73,10 +74,11 @@ filledPieces a buffer = cut (beforeBytes a) ∷ bytesText buffer ∷ lineText []
 abbrev pub filledResponse : Filled → CallResponse
 filledResponse f = record { unit = f .called .unit; pieces = filledPieces (f .called .answer) (f .buffer) }
 
--- `log LEN`: "log page"; `trans LEN`: "page 1Ah .. answered like `log`".
+-- `log LEN`: "log page"; `trans LEN`: "page 1Ah .. answered like `log`"; `page P LEN`: "answered like `log`".
 abbrev pub pageOutcome : Page → Unit → List ℕ → Filled
 pageOutcome Conditions u buffer = logOutcome u buffer
 pageOutcome Transitions u buffer = transitionsOutcome u buffer
+pageOutcome (Descriptors number) u buffer = newPageOutcome u number buffer
 
 abbrev pub startStopResponse : StartStopped → CallResponse
 startStopResponse s = oneLine (s .unit) (acceptedText (s .answer))
@@ -96,5 +98,17 @@ callResponse u (AnswerCall host reply) text = answerResponse (answerOutcome u ho
 callResponse u (Sense host len) text = filledResponse (senseOutcome u host (unfilled len))
 callResponse u (Log len) text = filledResponse (pageOutcome Conditions u (unfilled len))
 callResponse u (TransitionsCall len) text = filledResponse (pageOutcome Transitions u (unfilled len))
+callResponse u (NewPage number len) text = filledResponse (pageOutcome (Descriptors number) u (unfilled len))
 callResponse u (PageFaults len) text = record { unit = u; pieces = faultsPieces len text }
 callResponse u (PageRecord c len) text = record { unit = u; pieces = recordPieces c len text }
+
+-- `make`, at its `end`: "manufacture; prints `ok`, or `refused 3 -` and the record stays as it was".
+abbrev pub replacedBy : Called → Unit → Unit
+replacedBy c u = cond (isDone (c .answer)) (c .unit) u
+
+-- It is asked for the edition that is planned, with what the maker says of each condition.
+abbrev pub plannedOutcome : Unit → Called
+plannedOutcome planned = manufactureOutcome (planned .edition) (map makerOf (planned .drive .records))
+
+abbrev pub madeResponse : Unit → Unit → CallResponse
+madeResponse u planned = oneLine (replacedBy (plannedOutcome planned) u) (calledText (plannedOutcome planned .answer))

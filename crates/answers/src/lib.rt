@@ -1,5 +1,7 @@
 // Each call made over the face, and the line that it prints.
+ghost use mathlib.Core.List.{map};
 ghost use mathlib.Core.Path.{_≡_};
+ghost use Rattle.drive.specs.Drives.{makerOf};
 ghost use Rattle.readouts.specs.Readouts.{senseOutcome};
 ghost use Rattle.bridge.specs.Bridge.{startStopOutcome};
 ghost use Rattle.exchange.specs.Exchange.{nextOutcome, answerOutcome};
@@ -11,10 +13,13 @@ ghost use Rattle.findings.specs.Findings.{faultsPieces, recordPieces};
 ghost use Rattle.phrases.specs.Phrases.{calledText, acceptedText, sentText, progressText};
 ghost use Rattle.answers.specs.Answers;
 ghost use Rattle.answers.specs.Answers.{plainOutcome, unfilled, filledPieces, filledResponse, pageOutcome, callResponse};
+ghost use Rattle.answers.specs.Answers.{replacedBy, plannedOutcome, madeResponse};
 use asked::CallLine;
 use asked::PlainCall;
 use conditions::Condition;
 use digits::Text;
+use drive::Made;
+use drive::Record;
 use outcomes::Called;
 use refusals::Answer;
 use requests::Reply;
@@ -32,10 +37,11 @@ pub struct Printed {
     pub at: usize,
 }
 
-// The log pages.
+// The log pages; those of published ACS-2 by their number.
 pub enum Page {
     Conditions,
     Transitions,
+    Descriptors(u32),
 }
 
 fn is_done(a: Answer) -> bool
@@ -149,7 +155,7 @@ fn put_filled(a: Answer, buffer: &[u8], out: &mut [u8], at: usize) -> usize
     digits::put_line(digits::empty(), out, end)
 }
 
-// The most that `sense`, `log` and `trans` lend, as it is before the call.
+// The most that `sense`, `log`, `trans` and `page` lend, as it is before the call.
 fn unwritten() -> [u8; 1024]
     ensures { λ r. ⌜ r ≡ unfilled 1024 ⌝ }
 {
@@ -176,6 +182,7 @@ fn read_page(u: Unit, page: Page, buffer: &mut [u8]) -> Answer
     match page {
         Page::Conditions => power::log_page(u, buffer),
         Page::Transitions => power::transitions_page(u, buffer),
+        Page::Descriptors(number) => power::new_page(u, number, buffer),
     }
 }
 
@@ -223,7 +230,70 @@ pub fn make(u: Unit, call: CallLine, text: &[u8], out: &mut [u8], at: usize) -> 
         CallLine::Sense(host, len) => sense(u, host, len, out, at),
         CallLine::Log(len) => log(u, Page::Conditions, len, out, at),
         CallLine::Transitions(len) => log(u, Page::Transitions, len, out, at),
+        CallLine::NewPage(number, len) => log(u, Page::Descriptors(number), len, out, at),
         CallLine::PageFaults(len) => page_faults(u, len, text, out, at),
         CallLine::PageRecord(c, len) => page_record(u, c, len, text, out, at),
     }
+}
+
+// The new unit; beside a refusal "the record stays as it was".
+fn replaced_by(c: Called, u: Unit) -> Unit
+    ensures { λ r. ⌜ r ≡ replacedBy c u ⌝ }
+{
+    let made = c.unit;
+    let answer = c.answer;
+    if is_done(answer) { made } else { u }
+}
+
+// What the maker says of a condition.
+fn maker_of(r: Record) -> Made
+    ensures { λ m. ⌜ m ≡ makerOf r ⌝ }
+{
+    let recovery = r.recovery;
+    let default = r.default;
+    Made {
+        supported: r.supported,
+        saveable: r.saveable,
+        changeable: r.changeable,
+        recovery,
+        default,
+    }
+}
+
+fn makers_of(records: [Record; 5]) -> [Made; 5]
+    ensures { λ ms. ⌜ ms ≡ map makerOf records ⌝ }
+{
+    [
+        maker_of(records[0]),
+        maker_of(records[1]),
+        maker_of(records[2]),
+        maker_of(records[3]),
+        maker_of(records[4]),
+    ]
+}
+
+fn as_planned(planned: Unit) -> Called
+    ensures { λ c. ⌜ c ≡ plannedOutcome planned ⌝ }
+{
+    let edition = planned.edition;
+    let records = planned.drive.records;
+    power::manufacture(edition, makers_of(records))
+}
+
+fn made_by(u: Unit, planned: Unit) -> Told
+    ensures { λ r. ⌜ (r .unit ≡ replacedBy (plannedOutcome planned) u) × (said (r .text) ≡ cut (calledText (plannedOutcome planned .answer))) ⌝ }
+{
+    let c = as_planned(planned);
+    let answer = c.answer;
+    Told {
+        unit: replaced_by(c, u),
+        text: phrases::called(answer),
+    }
+}
+
+// Manufactures the planned unit in the place of `u` and writes the line of that.
+pub fn manufacture(u: Unit, planned: Unit, out: &mut [u8], at: usize) -> Printed
+    ensures { λ r. ⌜ (r .unit ≡ madeResponse u planned .unit) × (sheet (now (out .exit)) (r .at) ≡ wroteAll (sheet (now (out .entry)) at) (madeResponse u planned .pieces)) ⌝ }
+{
+    put_told(made_by(u, planned), out, at)
 }

@@ -1,3 +1,4 @@
+pub mod Editions
 pub mod Lengths
 pub mod Offers
 pub mod Records

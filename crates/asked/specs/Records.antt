@@ -7,7 +7,7 @@ use Rattle.drive.specs.Records.{unsupported}
 use Rattle.unit.specs.Units.{slotOf, heldOf}
 use Rattle.unit.specs.declared.Unit.{Unit}
 use Rattle.asked.specs.declared.Part.{Part}
-use Rattle.asked.specs.declared.Part.the-variants.{Settings, Stands, HasSlot, HasHeld, HasOut, HasCounts}
+use Rattle.asked.specs.declared.Part.the-variants.{IsOf, Settings, Stands, HasSlot, HasHeld, HasOut, HasCounts}
 use Rattle.asked.specs.declared.State.{State}
 use Rattle.asked.specs.declared.Entries.{Entries}
 use Rattle.asked.specs.declared.Tally.{Tally}
@@ -48,7 +48,11 @@ abbrev pub countsPart : Unit → Part
 countsPart u = HasCounts (tallyOf (u .drive .counts))
 
 -- "the five `c` lines (A B C Y Z), `state`, `slot 0` to `slot 3`, `held 0` to `held 3`, `out`"; "`show` prints it after `out`" of `counts`.
-abbrev pub partsOf : Unit → List Part
-partsOf u =
+abbrev pub afterEdition : Unit → List Part
+afterEdition u =
     settingsOf u 0 ∷ settingsOf u 1 ∷ settingsOf u 2 ∷ settingsOf u 3 ∷ settingsOf u 4 ∷ Stands (stateOf u)
     ∷ hostsOf u ++ (countsPart u ∷ [])
+
+-- "`show` prints it right after `unit`" of `ed`.
+abbrev pub partsOf : Unit → List Part
+partsOf u = IsOf (u .edition) ∷ afterEdition u

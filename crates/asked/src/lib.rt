@@ -1,11 +1,13 @@
-// What a line of a script can ask for: a call, a part of a set-up block, or what a word says that stands alone.
+// What a line of a script can ask for: a call, a line of a block, or what a word says that stands alone.
 ghost use mathlib.Core.Path.{_≡_};
 ghost use Rattle.conditions.specs.Conditions.{conditionAt};
 ghost use Prim.Native.Nat.{_≤_};
+ghost use Rattle.asked.specs.Editions.{editionFrom};
 ghost use Rattle.asked.specs.Lengths.{bufferLength};
 ghost use Rattle.asked.specs.Offers;
 use conditions::Condition;
 use conditions::Power;
+use drive::Edition;
 use drive::Record;
 use drive::Tenths;
 use registers::Registers;
@@ -34,6 +36,7 @@ pub enum CallLine {
     Sense(u32, u32),
     Log(u32),
     Transitions(u32),
+    NewPage(u32, u32),
     PageFaults(u32),
     PageRecord(Condition, u32),
 }
@@ -62,8 +65,9 @@ pub struct Tally {
     pub z: Entries,
 }
 
-// What one line of a set-up block sets.
+// What one line of a `unit` block sets.
 pub enum Part {
+    IsOf(Edition),
     Settings(Condition, Record),
     Stands(State),
     HasSlot(u32, Slot),
@@ -72,12 +76,15 @@ pub enum Part {
     HasCounts(Tally),
 }
 
+// A line of a `unit` block sets a part of the record; one of a `make` block tells what manufacture makes of a condition.
 pub enum Line {
     Blank,
     Wrong,
     Asks(CallLine),
     Sets(Part),
+    Tells(Condition, Record),
     Opens,
+    Makes(Edition),
     Closes,
     Shows,
     Tables,
@@ -98,6 +105,17 @@ pub fn condition_at(place: usize) -> Condition
         conditions::condition_at(place)
     } else {
         Condition::IdleA
+    }
+}
+
+// The edition that a flag stands for.
+pub fn edition_from(published: bool) -> Edition
+    ensures { λ r. ⌜ r ≡ editionFrom published ⌝ }
+{
+    if published {
+        Edition::Published
+    } else {
+        Edition::Draft
     }
 }
 

@@ -15,7 +15,7 @@ use Rattle.rows.proofs.Values.{values, own-values}
 
 with-lists : (u : Unit) (rs : List Record) (cs : List ℕ) (ss : List HostSlot) (hs : List HostHeld)
     → rs ≡ u .drive .records → cs ≡ u .drive .counts → ss ≡ u .slots → hs ≡ u .held
-    → unitOf (driveOf rs (u .drive .power) (u .drive .idle .0) cs) (u .stopped) (u .unsaved) ss hs (u .out) ≡ u
+    → unitOf (u .edition) (driveOf rs (u .drive .power) (u .drive .idle .0) cs) (u .stopped) (u .unsaved) ss hs (u .out) ≡ u
 with-lists u rs cs ss hs e f g h = rw (e, f, g, h)
 
 pub round-trip : SetsTheSame

@@ -4,10 +4,11 @@ use Prim.Native.Nat.{ℕ}
 use lib.ListN.{set}
 use Rattle.conditions.specs.Conditions.{placeOf}
 use Rattle.drive.specs.Drives.{driveOf, withRecords, withCounts}
-use Rattle.unit.specs.Units.{withDrive, withMarks, withSlot, withHeld, withOut, blank}
+use Rattle.drive.specs.declared.Edition.the-variants.{Draft}
+use Rattle.unit.specs.Units.{withEdition, withDrive, withMarks, withSlot, withHeld, withOut, blank}
 use Rattle.unit.specs.declared.Unit.{Unit}
 use Rattle.asked.specs.declared.Part.{Part}
-use Rattle.asked.specs.declared.Part.the-variants.{Settings, Stands, HasSlot, HasHeld, HasOut, HasCounts}
+use Rattle.asked.specs.declared.Part.the-variants.{IsOf, Settings, Stands, HasSlot, HasHeld, HasOut, HasCounts}
 use Rattle.asked.specs.declared.Tally.{Tally}
 
 -- `counts`: "twelve numbers, rows in power order, each timer then other".
@@ -23,6 +24,7 @@ countsOf t =
 
 -- "of two that set the same, the last holds".
 abbrev pub setPart : Part → Unit → Unit
+setPart (IsOf e) u = withEdition e u
 setPart (Settings c r) u = withDrive (withRecords (set (u .drive .records) (placeOf c) r) (u .drive)) u
 setPart (Stands s) u =
     withMarks (s .stopped) (s .unsaved) (withDrive (driveOf (u .drive .records) (s .power) (s .idle .0) (u .drive .counts)) u)
@@ -38,4 +40,4 @@ setAll (p ∷ ps) u = setAll ps (setPart p u)
 
 -- "what is not given is zero, none or empty": the record that a block sets up.
 abbrev pub setUp : List Part → Unit
-setUp ps = setAll ps blank
+setUp ps = setAll ps (blank Draft)

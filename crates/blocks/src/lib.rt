@@ -1,25 +1,53 @@
-// A set-up block: what its lines set, and the session of a script that it stands in.
+// The blocks of a script, `unit` and `make`: what their lines set, and the session that they stand in.
 ghost use mathlib.Core.Path.{_≡_};
-ghost use Rattle.asked.specs.declared.Line.the-variants.{Sets};
-ghost use Rattle.asked.specs.declared.Part.the-variants.{Settings, Stands, HasCounts};
+ghost use Rattle.asked.specs.declared.Line.the-variants.{Sets, Tells};
+ghost use Rattle.asked.specs.declared.Part.the-variants.{IsOf, Settings, Stands, HasCounts};
 ghost use Rattle.blocks.specs.Parts.{countsOf, setPart};
 ghost use Rattle.blocks.specs.Sessions;
-ghost use Rattle.blocks.specs.Sessions.{startSession, opened, drafted, closed};
+ghost use Rattle.blocks.specs.Sessions.{startSession, opened, openedMake, takesParts, takesTold, afterLine, closedWith, closed};
 use asked::Line;
 use asked::Part;
 use asked::State;
 use asked::Tally;
 use conditions::Condition;
 use drive::Drive;
+use drive::Edition;
 use drive::Record;
 use unit::Unit;
 
-// A run of a script: its unit and, while a block is open, the record that the block sets up and whether all its lines were good.
+// Which block is open: none, or that of `unit` or of `make`.
+pub enum Block {
+    NoBlock,
+    UnitBlock,
+    MakeBlock,
+}
+
+// A run of a script: its unit and, while a block is open, whether all its lines were good, and the record that they plan: what a `unit` block sets
+// up, or what manufacture makes of a `make` block.
 pub struct Session {
     pub unit: Unit,
-    pub is_open: bool,
+    pub block: Block,
     pub good: bool,
-    pub draft: Unit,
+    pub planned: Unit,
+}
+
+// No call changes a unit's edition; a block sets the record up anew.
+fn set_edition(u: Unit, edition: Edition) -> Unit
+    ensures { λ v. ⌜ v ≡ setPart (IsOf edition) u ⌝ }
+{
+    let d = u.drive;
+    let slots = u.slots;
+    let held = u.held;
+    let out = u.out;
+    Unit {
+        edition,
+        drive: d,
+        stopped: u.stopped,
+        unsaved: u.unsaved,
+        slots,
+        held,
+        out,
+    }
 }
 
 fn set_record(u: Unit, c: Condition, r: Record) -> Unit
@@ -79,6 +107,7 @@ fn set_part(u: Unit, p: Part) -> Unit
     ensures { λ v. ⌜ v ≡ setPart p u ⌝ }
 {
     match p {
+        Part::IsOf(edition) => set_edition(u, edition),
         Part::Settings(c, r) => set_record(u, c, r),
         Part::Stands(s) => set_state(u, s),
         Part::HasSlot(host, slot) => unit::with_slot(u, host, slot),
@@ -94,12 +123,22 @@ fn set_part(u: Unit, p: Part) -> Unit
 pub fn start() -> Session
     ensures { λ r. ⌜ r ≡ startSession ⌝ }
 {
-    let zero = unit::blank_unit();
+    let zero = unit::blank_unit(Edition::Draft);
     Session {
         unit: zero,
-        is_open: false,
+        block: Block::NoBlock,
         good: true,
-        draft: zero,
+        planned: zero,
+    }
+}
+
+pub fn is_open(block: Block) -> bool
+    ensures { λ r. ⌜ r ≡ Sessions.isOpen block ⌝ }
+{
+    match block {
+        Block::NoBlock => false,
+        Block::UnitBlock => true,
+        Block::MakeBlock => true,
     }
 }
 
@@ -107,12 +146,13 @@ pub fn start() -> Session
 pub fn with_unit(s: Session, u: Unit) -> Session
     ensures { λ r. ⌜ r ≡ Sessions.withUnit u s ⌝ }
 {
-    let draft = s.draft;
+    let block = s.block;
+    let planned = s.planned;
     Session {
         unit: u,
-        is_open: s.is_open,
+        block,
         good: s.good,
-        draft,
+        planned,
     }
 }
 
@@ -122,22 +162,21 @@ pub fn open_block(s: Session) -> Session
     let unit = s.unit;
     Session {
         unit,
-        is_open: true,
+        block: Block::UnitBlock,
         good: true,
-        draft: unit::blank_unit(),
+        planned: unit::blank_unit(Edition::Draft),
     }
 }
 
-fn with_part(s: Session, p: Part) -> Session
-    ensures { λ r. ⌜ r ≡ drafted (Sets p) s ⌝ }
+pub fn open_make(s: Session, edition: Edition) -> Session
+    ensures { λ r. ⌜ r ≡ openedMake edition s ⌝ }
 {
     let unit = s.unit;
-    let before = s.draft;
     Session {
         unit,
-        is_open: s.is_open,
-        good: s.good,
-        draft: set_part(before, p),
+        block: Block::MakeBlock,
+        good: true,
+        planned: unit::blank_unit(edition),
     }
 }
 
@@ -145,28 +184,98 @@ fn spoilt(s: Session) -> Session
     ensures { λ r. ⌜ r ≡ Sessions.spoilt s ⌝ }
 {
     let unit = s.unit;
-    let draft = s.draft;
+    let block = s.block;
+    let planned = s.planned;
     Session {
         unit,
-        is_open: s.is_open,
+        block,
         good: false,
-        draft,
+        planned,
     }
 }
 
+fn takes_parts(block: Block) -> bool
+    ensures { λ r. ⌜ r ≡ takesParts block ⌝ }
+{
+    match block {
+        Block::UnitBlock => true,
+        Block::NoBlock => false,
+        Block::MakeBlock => false,
+    }
+}
+
+fn takes_told(block: Block) -> bool
+    ensures { λ r. ⌜ r ≡ takesTold block ⌝ }
+{
+    match block {
+        Block::MakeBlock => true,
+        Block::NoBlock => false,
+        Block::UnitBlock => false,
+    }
+}
+
+fn with_part(s: Session, p: Part) -> Session
+    ensures { λ r. ⌜ r ≡ afterLine (Sets p) s ⌝ }
+{
+    let unit = s.unit;
+    let block = s.block;
+    let before = s.planned;
+    if takes_parts(block) {
+        return Session {
+            unit,
+            block,
+            good: s.good,
+            planned: set_part(before, p),
+        };
+    }
+    spoilt(s)
+}
+
+fn with_told(s: Session, c: Condition, made: Record) -> Session
+    ensures { λ r. ⌜ r ≡ afterLine (Tells c made) s ⌝ }
+{
+    let unit = s.unit;
+    let block = s.block;
+    let before = s.planned;
+    if takes_told(block) {
+        return Session {
+            unit,
+            block,
+            good: s.good,
+            planned: set_record(before, c, made),
+        };
+    }
+    spoilt(s)
+}
+
 // A line of an open block other than its `end`.
-pub fn draft_line(s: Session, line: Line) -> Session
-    ensures { λ r. ⌜ r ≡ drafted line s ⌝ }
+pub fn block_line(s: Session, line: Line) -> Session
+    ensures { λ r. ⌜ r ≡ afterLine line s ⌝ }
 {
     match line {
         Line::Blank => s,
         Line::Sets(part) => with_part(s, part),
+        Line::Tells(c, made) => with_told(s, c, made),
         Line::Wrong => spoilt(s),
         Line::Asks(_) => spoilt(s),
         Line::Opens => spoilt(s),
+        Line::Makes(_) => spoilt(s),
         Line::Closes => spoilt(s),
         Line::Shows => spoilt(s),
         Line::Tables => spoilt(s),
+    }
+}
+
+// A block's end, with the unit that it leaves.
+pub fn close_with(s: Session, u: Unit) -> Session
+    ensures { λ r. ⌜ r ≡ closedWith u s ⌝ }
+{
+    let planned = s.planned;
+    Session {
+        unit: u,
+        block: Block::NoBlock,
+        good: s.good,
+        planned,
     }
 }
 
@@ -175,12 +284,9 @@ pub fn close_block(s: Session) -> Session
     ensures { λ r. ⌜ r ≡ closed s ⌝ }
 {
     let before = s.unit;
-    let draft = s.draft;
-    let unit = if s.good { draft } else { before };
-    Session {
-        unit,
-        is_open: false,
-        good: s.good,
-        draft,
+    let planned = s.planned;
+    if s.good {
+        return close_with(s, planned);
     }
+    close_with(s, before)
 }

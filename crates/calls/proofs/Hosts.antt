@@ -9,7 +9,7 @@ use Rattle.unit.specs.Units.{emptySlot, slotOf, noneHeld, heldOf}
 use Rattle.unit.specs.declared.Unit.{Unit}
 use Rattle.unit.specs.declared.Out.the-variants.{NoneOut}
 use Rattle.refusals.specs.declared.Verdict.the-variants.{Clear}
-use Rattle.calls.specs.Calls.{Call, setFeatures, tick, read, write, powerOn, hardReset, softReset, startStop, next, answer, requestSense, logPage, transitionsPage, outcome, step}
+use Rattle.calls.specs.Calls.{Call, setFeatures, tick, read, write, powerOn, hardReset, softReset, startStop, next, answer, requestSense, logPage, transitionsPage, newPage, outcome, step}
 use Rattle.calls.specs.Described.{Reach, nobody, only, everybody, reachOf, isReset, sameKind, effect}
 use Rattle.calls.specs.Table.{verdictIn}
 use Rattle.calls.proofs.Numbers.{acceptance-does}
@@ -56,7 +56,7 @@ spared u = after-every (λ c v. Spared (reachOf c) u v) u (record {
 pub others-spared : (u : Unit) (c : Call) (host k : ℕ) → reachOf c ≡ only host → (k ≡ host → ⊥) → SameFor k u (outcome u c .unit)
 others-spared u c host k e other = (rw e at (spared u c)) k other
 
--- EPC, a tick and a read of the log page change no slot and no held sense at all.
+-- EPC, a tick and a read of a log page change no slot and no held sense at all.
 pub all-spared : (u : Unit) (c : Call) → reachOf c ≡ nobody → (outcome u c .unit .slots ≡ u .slots) × (outcome u c .unit .held ≡ u .held)
 all-spared u c e = rw e at (spared u c)
 
@@ -113,3 +113,4 @@ reset-clears u c reset e = rw (acceptance-does u c e .0) (on c reset)
     on (requestSense host buffer) h = absurd (false≢true h)
     on (logPage buffer) h = absurd (false≢true h)
     on (transitionsPage buffer) h = absurd (false≢true h)
+    on (newPage number buffer) h = absurd (false≢true h)

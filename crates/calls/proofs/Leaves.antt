@@ -27,8 +27,10 @@ use Rattle.unit.specs.declared.Held.the-variants.{Nothing}
 use Rattle.senses.specs.Senses.{senseBytes, powerSense}
 use Rattle.unit.specs.declared.Unit.{Unit}
 use Rattle.engine.specs.Engine.{epcRows, tickOutcome, powerOnOutcome, resetOutcome}
-use Rattle.readouts.specs.Readouts.{toldBytes, logOutcome, transitionsOutcome, countsHanded}
-use Rattle.calls.specs.Calls.{Call, setFeatures, tick, read, write, powerOn, hardReset, softReset, startStop, next, answer, requestSense, logPage, transitionsPage, plain, outcome, step}
+use Rattle.pages.specs.Logs.{logBytes}
+use Rattle.published.specs.Descriptors.{descriptorPage, lacksPage}
+use Rattle.readouts.specs.Readouts.{toldBytes, logOutcome, transitionsOutcome, newPageOutcome, countsHanded}
+use Rattle.calls.specs.Calls.{Call, setFeatures, tick, read, write, powerOn, hardReset, softReset, startStop, next, answer, requestSense, logPage, transitionsPage, newPage, plain, outcome, step}
 use Rattle.calls.specs.Table.{isEpc, verdictIn}
 use Rattle.calls.specs.Described.{effect, isPowerOn}
 use Rattle.calls.proofs.Numbers.{acceptance-does, other-keeps, own-told, start-wants}
@@ -134,15 +136,27 @@ log-still u buffer = still u (logPage buffer) refl refl
 pub transitions-still : (u : Unit) (buffer : List ℕ) → step u (transitionsPage buffer) ≡ u
 transitions-still u buffer = still u (transitionsPage buffer) refl refl
 
--- Each is refused by 1 and 3 alone.
-pub log-read : (u : Unit) (buffer : List ℕ) → wellFormed u ≡ true → length buffer ≡ 512 → outcome u (logPage buffer) .said ≡ plain Done
+-- nor does a new page.
+pub new-page-still : (u : Unit) (number : ℕ) (buffer : List ℕ) → step u (newPage number buffer) ≡ u
+new-page-still u number buffer = still u (newPage number buffer) refl refl
+
+-- The first two are refused by 1 and 3 alone.
+pub log-read : (u : Unit) (buffer : List ℕ) → wellFormed u ≡ true → length buffer ≡ 512
+    → (outcome u (logPage buffer) .said ≡ plain Done) × (outcome u (logPage buffer) .buffer ≡ logBytes (u .drive .records))
 unfolding logOutcome lowest
-log-read u buffer fine long = rw (eq-eqb (length buffer) 512 long, fine)
+log-read u buffer fine long = (rw (eq-eqb (length buffer) 512 long, fine), rw (outcome, eq-eqb (length buffer) 512 long, fine))
 
 pub transitions-read : (u : Unit) (buffer : List ℕ) → wellFormed u ≡ true → length buffer ≡ 52
     → (outcome u (transitionsPage buffer) .said ≡ plain Done) × (outcome u (transitionsPage buffer) .buffer ≡ transitionBytes (countsHanded u))
 unfolding transitionsOutcome lowest
 transitions-read u buffer fine long = (rw (eq-eqb (length buffer) 52 long, fine), rw (outcome, eq-eqb (length buffer) 52 long, fine))
+
+-- A new page, by 1, 3 and 11 alone.
+pub new-page-read : (u : Unit) (number : ℕ) (buffer : List ℕ) → wellFormed u ≡ true → length buffer ≡ 512 → lacksPage (u .edition) number ≡ false
+    → (outcome u (newPage number buffer) .said ≡ plain Done) × (outcome u (newPage number buffer) .buffer ≡ descriptorPage number (u .drive .records))
+unfolding newPageOutcome lowest
+new-page-read u number buffer fine long has =
+    (rw (eq-eqb (length buffer) 512 long, fine, has), rw (outcome, eq-eqb (length buffer) 512 long, fine, has))
 
 -- Any counts are well formed: the test of a record does not look at them.
 pub counts-free : (u : Unit) (counts : List ℕ) → wellFormed (withDrive (withCounts counts (u .drive)) u) ≡ wellFormed u

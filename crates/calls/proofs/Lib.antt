@@ -1,4 +1,5 @@
 pub mod Answers
+pub mod Editions
 pub mod Examples
 pub mod Facts
 pub mod Hosts
@@ -13,4 +14,5 @@ pub mod Reserved
 pub mod Selected
 pub mod Subcommands
 pub mod Steps
+pub mod Twins
 pub mod WellFormed

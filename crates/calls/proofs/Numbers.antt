@@ -13,7 +13,7 @@ use Rattle.refusals.proofs.Lowest.{not-applies, givesIn, not-given}
 use Rattle.refusals.proofs.Ranks.{given-exactly, clear-exactly}
 use Rattle.engine.specs.Engine.{epcSettled, epcOutcome, tickOutcome, readOutcome, writeOutcome, powerOnOutcome, resetOutcome}
 use Rattle.outcomes.specs.Settled.{settled}
-use Rattle.readouts.specs.Readouts.{filled, senseOutcome, logOutcome, transitionsOutcome}
+use Rattle.readouts.specs.Readouts.{filled, senseOutcome, logOutcome, transitionsOutcome, newPageOutcome}
 use Rattle.refusals.specs.declared.Refusal.{Refusal}
 use Rattle.refusals.specs.declared.Refusal.the-variants.{BadRecord, HasNone, BadField, Aborted}
 use Rattle.refusals.specs.declared.Verdict.{Verdict}
@@ -38,13 +38,13 @@ use Rattle.cdb.specs.declared.Wanted.the-variants.{Wants}
 use Rattle.operations.specs.declared.Next.the-variants.{Send}
 use Rattle.requests.specs.declared.Reply.{Reply}
 use Rattle.exchange.specs.declared.Replied.{Replied}
-use Rattle.calls.specs.Calls.{Call, setFeatures, tick, read, write, powerOn, hardReset, softReset, startStop, next, answer, requestSense, logPage, transitionsPage, plain, accepted, sent, progressed, outcome, step}
+use Rattle.calls.specs.Calls.{Call, setFeatures, tick, read, write, powerOn, hardReset, softReset, startStop, next, answer, requestSense, logPage, transitionsPage, newPage, plain, accepted, sent, progressed, outcome, step}
 use Rattle.calls.specs.Table.{appliesTo, isEpc, verdictIn, Numbers}
 use Rattle.calls.specs.Described.{ownRows, effect, lent, writes}
 
 -- ---- the rows of each call are the table's
 
-own-rows : (u : Unit) (c : Call) → lowest (ownRows u c) ≡ lowest (rowsBy (appliesTo u c))
+pub own-rows : (u : Unit) (c : Call) → lowest (ownRows u c) ≡ lowest (rowsBy (appliesTo u c))
 unfolding lowest
 own-rows u (setFeatures q) = simp (and-true, and-false)
 own-rows u tick = simp and-false
@@ -59,6 +59,7 @@ own-rows u (answer host reply) = simp and-false
 own-rows u (requestSense host buffer) = simp (and-true, and-false)
 own-rows u (logPage buffer) = simp and-false
 own-rows u (transitionsPage buffer) = simp and-false
+own-rows u (newPage number buffer) = simp and-false
 
 -- ---- where a host's next command or its answer is not refused, its operation waits
 
@@ -128,7 +129,7 @@ answer-told u host reply (Given r) e = refl
 
 -- What a call says is the verdict of its own rows.
 pub own-told : (u : Unit) (c : Call) → verdictIn (outcome u c .said) ≡ lowest (ownRows u c)
-unfolding epcOutcome tickOutcome readOutcome writeOutcome powerOnOutcome resetOutcome senseOutcome logOutcome transitionsOutcome startStopOutcome nextOutcome answerOutcome
+unfolding epcOutcome tickOutcome readOutcome writeOutcome powerOnOutcome resetOutcome senseOutcome logOutcome transitionsOutcome newPageOutcome startStopOutcome nextOutcome answerOutcome
 own-told u (setFeatures q) = epc-told u _ _
 own-told u tick = settled-told u _ _
 own-told u (read host) = settled-told u _ _
@@ -142,6 +143,7 @@ own-told u (answer host reply) = answer-told u host reply _ refl
 own-told u (requestSense host buffer) = filled-told u _ _ buffer _
 own-told u (logPage buffer) = filled-told u _ _ buffer _
 own-told u (transitionsPage buffer) = filled-told u _ _ buffer _
+own-told u (newPage number buffer) = filled-told u _ _ buffer _
 
 -- What a call says is the lowest number of the table that applies to it, or that none does.
 pub told : (u : Unit) (c : Call) → verdictIn (outcome u c .said) ≡ lowest (rowsBy (appliesTo u c))
@@ -181,10 +183,11 @@ ten-is-epc u (answer host reply) other = refl
 ten-is-epc u (requestSense host buffer) other = refl
 ten-is-epc u (logPage buffer) other = refl
 ten-is-epc u (transitionsPage buffer) other = refl
+ten-is-epc u (newPage number buffer) other = refl
 
 own-kept : (u : Unit) (c : Call) (r : Refusal) → lowest (ownRows u c) ≡ Given r
     → (step u c ≡ cond (isEpc c && isSame r Aborted) (rested u) u) × (outcome u c .buffer ≡ lent c)
-unfolding epcOutcome tickOutcome readOutcome writeOutcome powerOnOutcome resetOutcome senseOutcome logOutcome transitionsOutcome startStopOutcome nextOutcome answerOutcome
+unfolding epcOutcome tickOutcome readOutcome writeOutcome powerOnOutcome resetOutcome senseOutcome logOutcome transitionsOutcome newPageOutcome startStopOutcome nextOutcome answerOutcome
 own-kept u (setFeatures q) r e = (rw (e, step), refl)
 own-kept u tick r e = (rw (e, step), refl)
 own-kept u (read host) r e = (rw (e, step), refl)
@@ -198,6 +201,7 @@ own-kept u (answer host reply) r e = (rw (e, step), refl)
 own-kept u (requestSense host buffer) r e = (rw (e, step), rw (e, outcome))
 own-kept u (logPage buffer) r e = (rw (e, step), rw (e, outcome))
 own-kept u (transitionsPage buffer) r e = (rw (e, step), rw (e, outcome))
+own-kept u (newPage number buffer) r e = (rw (e, step), rw (e, outcome))
 
 -- What holds of the record as it came, and with its idle count restarted, holds after every refusal.
 pub after-refusal : (u : Unit) (c : Call) (r : Refusal) (P : Unit → Type 0) → P (rested u) → P u → verdictIn (outcome u c .said) ≡ Given r
@@ -230,7 +234,7 @@ abort-rests u c h = on (isEpc c) refl
 
 -- Where none of its rows applies, a call leaves its effect, and in the buffer what it writes.
 pub own-effect : (u : Unit) (c : Call) → lowest (ownRows u c) ≡ Clear → (step u c ≡ effect u c) × (outcome u c .buffer ≡ writes u c)
-unfolding epcOutcome tickOutcome readOutcome writeOutcome powerOnOutcome resetOutcome senseOutcome logOutcome transitionsOutcome startStopOutcome nextOutcome answerOutcome
+unfolding epcOutcome tickOutcome readOutcome writeOutcome powerOnOutcome resetOutcome senseOutcome logOutcome transitionsOutcome newPageOutcome startStopOutcome nextOutcome answerOutcome
 own-effect u (setFeatures q) e = (rw (e, step), refl)
 own-effect u tick e = (rw (e, step), refl)
 own-effect u (read host) e = (rw (e, step), refl)
@@ -244,6 +248,7 @@ own-effect u (answer host reply) e = (rw (e, step), refl)
 own-effect u (requestSense host buffer) e = (rw (e, step), rw (e, outcome))
 own-effect u (logPage buffer) e = (rw (e, step), rw (e, outcome))
 own-effect u (transitionsPage buffer) e = (rw (e, step), rw (e, outcome))
+own-effect u (newPage number buffer) e = (rw (e, step), rw (e, outcome))
 
 -- An accepted call leaves its effect.
 pub acceptance-does : (u : Unit) (c : Call) → verdictIn (outcome u c .said) ≡ Clear

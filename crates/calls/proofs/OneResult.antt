@@ -17,6 +17,7 @@ use Rattle.exchange.proofs.next_command.Reads as next-command
 use Rattle.exchange.proofs.answer.Reads as answer
 use Rattle.readouts.proofs.request_sense.Reads as request-sense
 use Rattle.readouts.proofs.log_page.Reads as log-page
+use Rattle.readouts.proofs.new_page.Reads as new-page
 use Rattle.readouts.proofs.transitions_page.Reads as transitions-page
 use Rattle.readouts.proofs.transition_counts.Reads as transition-counts
 use Rattle.reader.proofs.page_record.Reads as page-record
@@ -106,6 +107,11 @@ one-transitions-page = (λ κs a. tt, λ κs a x y s t p q. same (p .0) (q .0), 
 
 pub one-transition-counts : AsksNothing transition-counts.Asked × OneResult transition-counts.Post
 one-transition-counts = (λ κs a. tt, λ κs a x y s t. same)
+
+-- ---- document 02, request (vi)
+
+pub one-new-page : AsksNothing new-page.Asked × OneResult new-page.Post × OneBuffer new-page.Post (λ κs s. now (s .1 .1 .0))
+one-new-page = (λ κs a. tt, λ κs a x y s t p q. same (p .0) (q .0), λ κs a x y s t p q. same (p .1) (q .1))
 
 -- ---- document 02, request (v); of the three functions on a reader, which are proved by hand: reader/proofs/OneResult.antt
 

@@ -8,7 +8,7 @@ use Rattle.refusals.specs.declared.Refusal.the-variants.{CommandOut}
 use Rattle.refusals.specs.declared.Verdict.{Verdict}
 use Rattle.refusals.specs.declared.Verdict.the-variants.{Clear, Given}
 use Rattle.unit.specs.declared.Unit.{Unit}
-use Rattle.calls.specs.Calls.{Call, setFeatures, tick, read, write, powerOn, hardReset, softReset, startStop, next, answer, requestSense, logPage, transitionsPage, outcome, step}
+use Rattle.calls.specs.Calls.{Call, setFeatures, tick, read, write, powerOn, hardReset, softReset, startStop, next, answer, requestSense, logPage, transitionsPage, newPage, outcome, step}
 use Rattle.calls.specs.Described.{isReset, isAnswerFor}
 use Rattle.calls.specs.Table.{waitsForDrive, verdictIn}
 use Rattle.calls.proofs.Numbers.{accepted-exactly, after-refusal, other-keeps, acceptance-does}
@@ -65,6 +65,8 @@ out-stands u (requestSense host buffer) out h = out-refuses u (requestSense host
 out-stands u (logPage buffer) out h = kept-anyway u (logPage buffer) u (same u) (λ e. acceptance-does u (logPage buffer) e .0)
 out-stands u (transitionsPage buffer) out h =
     kept-anyway u (transitionsPage buffer) u (same u) (λ e. acceptance-does u (transitionsPage buffer) e .0)
+out-stands u (newPage number buffer) out h =
+    kept-anyway u (newPage number buffer) u (same u) (λ e. acceptance-does u (newPage number buffer) e .0)
 
 -- "A tick with a command out changes nothing."
 pub tick-out : (u : Unit) → isOut (u .out) ≡ true → step u tick ≡ u

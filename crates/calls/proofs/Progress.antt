@@ -37,7 +37,7 @@ use Rattle.operations.specs.declared.Report.{Report}
 use Rattle.operations.specs.declared.Next.the-variants.{Send}
 use Rattle.operations.specs.declared.Progress.the-variants.{More, Ended}
 use Rattle.exchange.specs.declared.Replied.{Replied}
-use Rattle.calls.specs.Calls.{Call, setFeatures, tick, read, write, powerOn, hardReset, softReset, startStop, next, answer, requestSense, logPage, transitionsPage, Said, plain, outcome, step, run, Event, history}
+use Rattle.calls.specs.Calls.{Call, setFeatures, tick, read, write, powerOn, hardReset, softReset, startStop, next, answer, requestSense, logPage, transitionsPage, newPage, Said, plain, outcome, step, run, Event, history}
 use Rattle.calls.specs.Described.{isReset, isWrite, isAnswerFor}
 use Rattle.calls.specs.Table.{verdictIn, isClear}
 use Rattle.refusals.proofs.Lowest.{not-applies}
@@ -241,6 +241,7 @@ module _ (u : Unit) (saved : u .unsaved ≡ false) where
   saved-kept (requestSense host buffer) n = saved-unless (requestSense host buffer) (λ said. refl)
   saved-kept (logPage buffer) n = saved-unless (logPage buffer) (λ said. refl)
   saved-kept (transitionsPage buffer) n = saved-unless (transitionsPage buffer) (λ said. refl)
+  saved-kept (newPage number buffer) n = saved-unless (newPage number buffer) (λ said. refl)
 
 -- A waiting operation stays as it is through every call that is no reset and no answer to it: its own host's START STOP UNIT is refused.
 pub waiting-kept : (u : Unit) (c : Call) (k : ℕ) (q : Request) → slotOf (u .slots) k ≡ Waiting q → movesOn k c ≡ false

@@ -35,10 +35,10 @@ module _ (u : Unit) (host : ℕ) (cdb : List ℕ) where
 
 module _ (u : Unit) (q : Registers) where
   -- "a reserved bit is one".
-  pub bit-is-10 : (k : ℕ) → k < 32 → isNamed k (namedBits (bits 3 0 (q .lba))) ≡ false → bit k (q .lba) ≡ true
+  pub bit-is-10 : (k : ℕ) → k < 32 → isNamed k (namedBits (u .edition) (bits 3 0 (q .lba))) ≡ false → bit k (q .lba) ≡ true
       → appliesTo u (setFeatures q) Aborted ≡ true
-  bit-is-10 k below unnamed one = rw (reserved-aborts q (u .drive .records) k below unnamed one)
+  bit-is-10 k below unnamed one = rw (reserved-aborts (u .edition) q (u .drive .records) k below unnamed one)
 
   -- "subcommand above 3h".
   pub sub-is-10 : 3 < bits 3 0 (q .lba) → appliesTo u (setFeatures q) Aborted ≡ true
-  sub-is-10 above = rw (unknown-aborts q (u .drive .records) above)
+  sub-is-10 above = rw (unknown-aborts (u .edition) q (u .drive .records) above)

@@ -39,10 +39,10 @@ module _ (u : Unit) (q : Registers) (z : Record) (all : named (q .count) ≡ Eve
   -- that isn't saveable still aborts everything."
   pub every-accepted : Accepts u q
       ↔ ((wellFormed u ≡ true) × (isOut (u .out) ≡ false)
-      × Reads q × (bits 3 0 (q .lba) ≡ 1 → ⊥) × EveryFits (q .lba) (u .drive .records) z)
+      × Reads (u .edition) q × (bits 3 0 (q .lba) ≡ 1 → ⊥) × EveryFits (q .lba) (u .drive .records) z)
   every-accepted = (
-    λ h. let a = epc-accepted u q .0 h in let e = every-exactly q (u .drive .records) z all .0 (a .2) in (a .0, a .1, e .0, e .1, e .2),
-    λ h. epc-accepted u q .1 (h .0, h .1, every-exactly q (u .drive .records) z all .1 (h .2, h .3, h .4)),
+    λ h. let a = epc-accepted u q .0 h in let e = every-exactly (u .edition) q (u .drive .records) z all .0 (a .2) in (a .0, a .1, e .0, e .1, e .2),
+    λ h. epc-accepted u q .1 (h .0, h .1, every-exactly (u .edition) q (u .drive .records) z all .1 (h .2, h .3, h .4)),
   )
 
   module _ (accepted : Accepts u q) where
@@ -52,7 +52,7 @@ module _ (u : Unit) (q : Registers) (z : Record) (all : named (q .count) ≡ Eve
     abbrev after : Registers → ℕ → Record
     after r i = getD (step u (setFeatures r) .drive .records) i z
 
-    clear : (wellFormed u ≡ true) × (isOut (u .out) ≡ false) × (aborts q (u .drive .records) ≡ false)
+    clear : (wellFormed u ≡ true) × (isOut (u .out) ≡ false) × (aborts (u .edition) q (u .drive .records) ≡ false)
     clear = epc-accepted u q .0 accepted
 
     inside : (c : Condition) → placeOf c < length (u .drive .records)
@@ -62,13 +62,13 @@ module _ (u : Unit) (q : Registers) (z : Record) (all : named (q .count) ≡ Eve
     pub selected-as-alone : (c : Condition) → before (placeOf c) .supported ≡ true → before (placeOf c) .changeable ≡ true
         → Accepts u (alone c q) × (after q (placeOf c) ≡ after (alone c q) (placeOf c))
     selected-as-alone c sup chg =
-        let same = as-alone q (u .drive) z all (clear .2) c (inside c) sup chg in
+        let same = as-alone (u .edition) q (u .drive) z all (clear .2) c (inside c) sup chg in
         let own = epc-accepted u (alone c q) .1 (clear .0, clear .1, same .0) in
         (own, rw (acceptance-does u (setFeatures q) accepted .0, acceptance-does u (setFeatures (alone c q)) own .0) (same .1))
 
     -- Any other keeps its record.
     pub unselected-kept : (i : ℕ) → (before i .supported && before i .changeable) ≡ false → after q i ≡ before i
-    unselected-kept i e = rw (acceptance-does u (setFeatures q) accepted .0) (others-spared q (u .drive) z all (clear .2) i e)
+    unselected-kept i e = rw (acceptance-does u (setFeatures q) accepted .0) (others-spared (u .edition) q (u .drive) z all (clear .2) i e)
 
     -- So an accepted FFh leaves of each condition what its own Count leaves, whether that one is accepted or aborts.
     pub each-as-alone : (c : Condition) → after q (placeOf c) ≡ after (alone c q) (placeOf c)
@@ -77,7 +77,7 @@ module _ (u : Unit) (q : Registers) (z : Record) (all : named (q .count) ≡ Eve
         kept : (before (placeOf c) .supported && before (placeOf c) .changeable) ≡ false → (v : Verdict)
             → verdictIn (outcome u (setFeatures (alone c q)) .said) ≡ v → after (alone c q) (placeOf c) ≡ before (placeOf c)
         kept e Clear h =
-            absurd (true≢false (sym (alone-aborts q (u .drive) z all (clear .2) c (inside c) e) ∙ epc-accepted u (alone c q) .0 h .2))
+            absurd (true≢false (sym (alone-aborts (u .edition) q (u .drive) z all (clear .2) c (inside c) e) ∙ epc-accepted u (alone c q) .0 h .2))
         kept e (Given r) h =
             after-refusal u (setFeatures (alone c q)) r (λ v. getD (v .drive .records) (placeOf c) z ≡ before (placeOf c)) refl refl h
 
@@ -90,4 +90,4 @@ pub unchangeable-kept : (u : Unit) (z : Record) (i : ℕ) → i < length (u .dri
     → (c : Call) → isPowerOn c ≡ false → getD (step u c .drive .records) i z ≡ getD (u .drive .records) i z
 unchangeable-kept u z i within fixed =
     after-settings u (λ c rs. getD rs i z ≡ getD (u .drive .records) i z) (λ c. refl)
-    (λ q clear. unchangeable-stays q (u .drive) z i (not-applies (epcRows u q) Aborted clear) within fixed)
+    (λ q clear. unchangeable-stays q (u .drive) z i (u .edition) (not-applies (epcRows u q) Aborted clear) within fixed)

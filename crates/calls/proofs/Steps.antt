@@ -11,7 +11,7 @@ use Rattle.unit.specs.Units.{slotOf, isOut, largestOf, withDrive, withSlot, wit
 use Rattle.refusals.specs.Refusals.{isSame, lowest}
 use Rattle.outcomes.specs.Settled.{settled}
 use Rattle.engine.specs.Engine.{epcSettled, epcRows, tickRows, mediumRows, resetRows, epcEffect, tickEffect, readEffect, writeEffect, powerOnEffect, hardResetEffect, epcOutcome, tickOutcome, readOutcome, writeOutcome, powerOnOutcome, resetOutcome}
-use Rattle.readouts.specs.Readouts.{filled, senseRows, logRows, transitionsRows, senseEffect, senseOutcome, logOutcome, transitionsOutcome}
+use Rattle.readouts.specs.Readouts.{filled, senseRows, logRows, transitionsRows, newPageRows, senseEffect, senseOutcome, logOutcome, transitionsOutcome, newPageOutcome}
 use Rattle.refusals.specs.declared.Refusal.the-variants.{Aborted}
 use Rattle.refusals.specs.declared.Verdict.{Verdict}
 use Rattle.refusals.specs.declared.Verdict.the-variants.{Clear, Given}
@@ -32,7 +32,7 @@ use Rattle.cdb.specs.declared.Wanted.{Wanted}
 use Rattle.cdb.specs.declared.Wanted.the-variants.{Wants, Unlisted}
 use Rattle.requests.specs.declared.Reply.{Reply}
 use Rattle.exchange.specs.declared.Replied.{Replied}
-use Rattle.calls.specs.Calls.{Call, setFeatures, tick, read, write, powerOn, hardReset, softReset, startStop, next, answer, requestSense, logPage, transitionsPage, outcome}
+use Rattle.calls.specs.Calls.{Call, setFeatures, tick, read, write, powerOn, hardReset, softReset, startStop, next, answer, requestSense, logPage, transitionsPage, newPage, outcome}
 
 -- ---- the effects
 
@@ -114,7 +114,7 @@ module _ (P : Call → Unit → Type 0) (u : Unit) (after : Effects P u) where
 
   -- What holds after every effect holds after every call.
   pub after-every : (c : Call) → P c (outcome u c .unit)
-  unfolding epcOutcome tickOutcome readOutcome writeOutcome powerOnOutcome resetOutcome senseOutcome logOutcome transitionsOutcome startStopOutcome nextOutcome answerOutcome
+  unfolding epcOutcome tickOutcome readOutcome writeOutcome powerOnOutcome resetOutcome senseOutcome logOutcome transitionsOutcome newPageOutcome startStopOutcome nextOutcome answerOutcome
   after-every (setFeatures q) = subcommands q (lowest (epcRows u q)) (after .epc q)
   after-every tick =
       settles tick (tickEffect u) (lowest (tickRows u)) (λ v. chosen (P tick) (isOut (u .out)) _ _ (λ e. after .none tick) (after .ticks))
@@ -131,3 +131,5 @@ module _ (P : Call → Unit → Type 0) (u : Unit) (after : Effects P u) where
   after-every (logPage buffer) = fills (logPage buffer) u _ buffer (lowest (logRows u buffer)) (after .none (logPage buffer))
   after-every (transitionsPage buffer) =
       fills (transitionsPage buffer) u _ buffer (lowest (transitionsRows u buffer)) (after .none (transitionsPage buffer))
+  after-every (newPage number buffer) =
+      fills (newPage number buffer) u _ buffer (lowest (newPageRows u number buffer)) (after .none (newPage number buffer))

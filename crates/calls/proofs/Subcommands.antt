@@ -38,7 +38,7 @@ Accepts u q = verdictIn (outcome u (setFeatures q) .said) ≡ Clear
 
 -- Of its rows 3, 4 and 10 none applies.
 pub epc-accepted : (u : Unit) (q : Registers)
-    → Accepts u q ↔ ((wellFormed u ≡ true) × (isOut (u .out) ≡ false) × (aborts q (u .drive .records) ≡ false))
+    → Accepts u q ↔ ((wellFormed u ≡ true) × (isOut (u .out) ≡ false) × (aborts (u .edition) q (u .drive .records) ≡ false))
 epc-accepted u q = (
   λ h. let clear = sym (own-told u (setFeatures q)) ∙ h in (
     not-false _ (not-applies (epcRows u q) BadRecord clear),
@@ -76,7 +76,7 @@ module _ (u : Unit) (q : Registers) (accepted : Accepts u q) where
       named-follows within names =
           rw (acceptance-does u (setFeatures q) accepted .0)
           (selected-follows q (u .drive) z i other
-          (accepted-exactly q (u .drive .records) z .0 (epc-accepted u q .0 accepted .2) .reads .number)
+          (accepted-exactly (u .edition) q (u .drive .records) z .0 (epc-accepted u q .0 accepted .2) .reads .number)
           within
           names)
 

@@ -3,7 +3,7 @@ use mathlib.Core.List.{List, [], _∷_}
 use Prim.Native.Nat.{ℕ}
 use Rattle.registers.specs.declared.Registers.{Registers}
 use Rattle.outcomes.specs.declared.Called.{Called}
-use Rattle.readouts.specs.Readouts.{Filled, senseOutcome, logOutcome, transitionsOutcome}
+use Rattle.readouts.specs.Readouts.{Filled, senseOutcome, logOutcome, transitionsOutcome, newPageOutcome}
 use Rattle.engine.specs.Engine.{epcOutcome, tickOutcome, readOutcome, writeOutcome, powerOnOutcome, resetOutcome}
 use Rattle.refusals.specs.declared.Answer.{Answer}
 use Rattle.unit.specs.declared.Unit.{Unit}
@@ -14,7 +14,7 @@ use Rattle.operations.specs.declared.Acceptance.{Acceptance}
 use Rattle.operations.specs.declared.Next.{Next}
 use Rattle.operations.specs.declared.Progress.{Progress}
 
--- The calls on a unit, with what each is handed: registers, a host, a CDB, the drive's answer, a lent buffer as it came.
+-- The calls on a unit, with what each is handed: registers, a host, a CDB, the drive's answer, a page's number, a lent buffer as it came.
 pub data Call : Type 0 where
   setFeatures : Registers → Call
   tick : Call
@@ -29,6 +29,7 @@ pub data Call : Type 0 where
   requestSense : ℕ → List ℕ → Call
   logPage : List ℕ → Call
   transitionsPage : List ℕ → Call
+  newPage : ℕ → List ℕ → Call
 
 -- What a call says, in the words of its own answer.
 pub data Said : Type 0 where
@@ -66,6 +67,7 @@ outcome u (answer host reply) =
 outcome u (requestSense host buffer) = intoBuffer (senseOutcome u host buffer)
 outcome u (logPage buffer) = intoBuffer (logOutcome u buffer)
 outcome u (transitionsPage buffer) = intoBuffer (transitionsOutcome u buffer)
+outcome u (newPage number buffer) = intoBuffer (newPageOutcome u number buffer)
 
 -- A step function: what a call on a record comes to. The layer's is `outcome`; a wrong program has another.
 abbrev pub StepFunction : Type 0

@@ -7,17 +7,18 @@ use lib.Dec.{eqb}
 use Rattle.registers.specs.declared.Registers.{Registers}
 use Rattle.refusals.specs.Refusals.{Row}
 use Rattle.pages.specs.Logs.{logBytes}
+use Rattle.published.specs.Descriptors.{descriptorPage}
 use Rattle.transitions.specs.Page.{transitionBytes}
 use Rattle.unit.specs.Units.{slotOf, heldOf}
 use Rattle.unit.specs.declared.Unit.{Unit}
 use Rattle.engine.specs.Engine.{epcRows, epcEffect, tickRows, tickEffect, mediumRows, readEffect, writeEffect, resetRows, powerOnEffect, hardResetEffect}
-use Rattle.readouts.specs.Readouts.{senseRows, toldBytes, senseEffect, logRows, transitionsRows, countsHanded}
+use Rattle.readouts.specs.Readouts.{senseRows, toldBytes, senseEffect, logRows, transitionsRows, countsHanded, newPageRows}
 use Rattle.cdb.specs.Cdb.{wanted}
 use Rattle.registers.specs.Commands.{ataCommand}
 use Rattle.requests.specs.declared.Reply.the-variants.{Good}
 use Rattle.bridge.specs.Bridge.{startStopRows, startStopEffect}
 use Rattle.exchange.specs.Exchange.{nextRows, nextEffect, answerRows, answerOn}
-use Rattle.calls.specs.Calls.{Call, setFeatures, tick, read, write, powerOn, hardReset, softReset, startStop, next, answer, requestSense, logPage, transitionsPage}
+use Rattle.calls.specs.Calls.{Call, setFeatures, tick, read, write, powerOn, hardReset, softReset, startStop, next, answer, requestSense, logPage, transitionsPage, newPage}
 
 -- Whose call it is: nobody's, one host's, everybody's. No slot and no held sense changes but those of the hosts that it is of.
 pub data Reach : Type 0 where
@@ -33,6 +34,8 @@ pub record Described : Type 0 where
   pub registers : Registers
   pub bytes : List ℕ
   pub size : ℕ
+  -- the number of the new page that it asks for; 0 for any other call
+  pub page : ℕ
   -- the rows that it is held to, and the record that it leaves where none of them applies
   pub rows : Unit → List Row
   pub effect : Unit → Unit
@@ -48,6 +51,7 @@ bare kind reach rows effect = record {
   registers = ataCommand 0 0 0 0;
   bytes = [];
   size = 0;
+  page = 0;
   rows = rows;
   effect = effect;
   lent = [];
@@ -62,6 +66,7 @@ lending buffer size writes d = record {
   registers = d .registers;
   bytes = buffer;
   size = size;
+  page = d .page;
   rows = d .rows;
   effect = d .effect;
   lent = buffer;
@@ -76,9 +81,25 @@ handing q bytes size d = record {
   registers = q;
   bytes = bytes;
   size = size;
+  page = d .page;
   rows = d .rows;
   effect = d .effect;
   lent = [];
+  writes = d .writes;
+}
+
+-- One that asks for the new page of a number.
+abbrev pub numbered : ℕ → Described → Described
+numbered number d = record {
+  kind = d .kind;
+  reach = d .reach;
+  registers = d .registers;
+  bytes = d .bytes;
+  size = d .size;
+  page = number;
+  rows = d .rows;
+  effect = d .effect;
+  lent = d .lent;
   writes = d .writes;
 }
 
@@ -103,6 +124,9 @@ describe (logPage buffer) =
     lending buffer 512 (λ u. logBytes (u .drive .records)) (bare 11 nobody (λ u. logRows u buffer) (λ u. u))
 describe (transitionsPage buffer) =
     lending buffer 52 (λ u. transitionBytes (countsHanded u)) (bare 12 nobody (λ u. transitionsRows u buffer) (λ u. u))
+describe (newPage number buffer) =
+    numbered number
+    (lending buffer 512 (λ u. descriptorPage number (u .drive .records)) (bare 13 nobody (λ u. newPageRows u number buffer) (λ u. u)))
 
 -- ---- read off it
 
@@ -138,9 +162,12 @@ isWrite c = sameKind c (write 0)
 abbrev pub isTick : Call → Bool
 isTick c = sameKind c tick
 
--- "a tick or a log page read": page 1Ah is a log page too.
+abbrev pub isNewPage : Call → Bool
+isNewPage c = sameKind c (newPage 0 [])
+
+-- "a tick or a log page read": page 1Ah and the new pages are log pages too.
 abbrev pub isTickOrLog : Call → Bool
-isTickOrLog c = isTick c || sameKind c (logPage []) || sameKind c (transitionsPage [])
+isTickOrLog c = isTick c || sameKind c (logPage []) || sameKind c (transitionsPage []) || isNewPage c
 
 abbrev pub reachOf : Call → Reach
 reachOf c = describe c .reach

@@ -10,6 +10,7 @@ use Rattle.conditions.specs.declared.Condition.the-variants.{IdleA, IdleB, Stan
 use Rattle.conditions.specs.declared.Cause.the-variants.{Timer, Command}
 use Rattle.conditions.specs.declared.Power.{Power}
 use Rattle.conditions.specs.declared.Power.the-variants.{Active, Low}
+use Rattle.drive.specs.declared.Edition.the-variants.{Draft}
 use Rattle.drive.specs.declared.Setting.{Setting}
 use Rattle.drive.specs.declared.Record.{Record}
 use Rattle.drive.specs.declared.Made.{Made}
@@ -57,9 +58,9 @@ abbrev pub makes : Setting → Made
 makes default =
     record { supported = true; saveable = true; changeable = true; recovery = record { 0 = 0 }; default = default }
 
--- A new unit, by the settings of Idle_A, Idle_B, Idle_C, Standby_y and Standby_z: "current, saved and default agree", Active, idle count 0.
+-- A new draft unit, by the settings of Idle_A, Idle_B, Idle_C, Standby_y and Standby_z: "current, saved and default agree", Active, idle count 0.
 abbrev pub new : Setting → Setting → Setting → Setting → Setting → Unit
-new a b c y z = madeUnit (makes a ∷ makes b ∷ makes c ∷ makes y ∷ makes z ∷ [])
+new a b c y z = madeUnit Draft (makes a ∷ makes b ∷ makes c ∷ makes y ∷ makes z ∷ [])
 
 -- "Timers are 0 and off unless given".
 abbrev pub fresh : Unit

@@ -1,16 +1,17 @@
 -- Values of document 01, and of document 02, that stand in one definition each, said again on a call: a table of facts beside the marked examples, under one statement of
 -- any step function. Each row is a run from a record, and what its last outcome shows.
 use mathlib.Core.Bool.{Bool, true, false}
-use mathlib.Core.List.{List, [], _∷_}
+use mathlib.Core.List.{List, [], _∷_, _++_}
 use mathlib.Core.Path.{_≡_}
 use Prim.Native.Nat.{ℕ}
-use lib.ListN.{replicate}
+use lib.ListN.{replicate, take}
 use Rattle.conditions.specs.declared.Condition.the-variants.{IdleA, IdleC, StandbyY, StandbyZ}
 use Rattle.conditions.specs.declared.Cause.the-variants.{Command}
 use Rattle.conditions.specs.declared.Power.{Power}
 use Rattle.conditions.specs.declared.Power.the-variants.{Active, Low}
 use Rattle.drive.specs.Drives.{withCounts, madeRecord}
 use Rattle.drive.specs.Records.{unsupported}
+use Rattle.drive.specs.declared.Edition.the-variants.{Draft, Published}
 use Rattle.drive.specs.declared.Setting.{Setting}
 use Rattle.drive.specs.declared.Record.{Record}
 use Rattle.drive.specs.declared.Made.{Made}
@@ -20,7 +21,7 @@ use Rattle.refusals.specs.declared.SenseDue.{SenseDue}
 use Rattle.refusals.specs.declared.SenseDue.the-variants.{NoSense, WithSense}
 use Rattle.refusals.specs.declared.Verdict.{Verdict}
 use Rattle.refusals.specs.declared.Verdict.the-variants.{Clear, Given}
-use Rattle.unit.specs.Units.{withDrive, withPower, withMarks, withSlot, withHeld, withOut, blank}
+use Rattle.unit.specs.Units.{withEdition, withDrive, withPower, withMarks, withSlot, withHeld, withOut, blank}
 use Rattle.unit.specs.declared.Slot.the-variants.{Waiting}
 use Rattle.unit.specs.declared.Held.the-variants.{Holds}
 use Rattle.unit.specs.declared.Out.the-variants.{OutFor}
@@ -35,7 +36,7 @@ use Rattle.requests.specs.declared.Stage.the-variants.{Straight, Flushing}
 use Rattle.requests.specs.declared.Failure.the-variants.{CommandSequence, NotReady}
 use Rattle.requests.specs.declared.Reply.{Reply}
 use Rattle.requests.specs.declared.Reply.the-variants.{Good, Bad}
-use Rattle.calls.specs.Calls.{Call, tick, read, write, powerOn, hardReset, softReset, startStop, next, answer, requestSense, transitionsPage, plain, progressed, Outcome, StepFunction}
+use Rattle.calls.specs.Calls.{Call, tick, read, write, powerOn, hardReset, softReset, startStop, next, answer, requestSense, logPage, transitionsPage, newPage, plain, progressed, Outcome, StepFunction}
 use Rattle.calls.specs.Examples.{Example, IsShown, off, on, new, fresh, keeps, quiet, holding, idled, epcCall, cdbCall, done, aborted, sends}
 use Rattle.calls.specs.Table.{verdictIn}
 
@@ -153,6 +154,36 @@ runsWell four p u = record { start = u; calls = runWhole four Good; shows = ende
 abbrev pub startFails : Unit → Example
 startFails u = record { start = u; calls = runWhole 0x01 Bad; shows = startFailed CheckCondition (withPower Active u) }
 
+-- By Idle_B's record.
+abbrev pub withIdleB : Record → Unit
+withIdleB r = holding (quiet ∷ r ∷ quiet ∷ quiet ∷ quiet ∷ [])
+
+-- The same record of a published unit.
+abbrev pub ofPublished : Unit → Unit
+ofPublished = withEdition Published
+
+-- A supported condition's record: whether it is saveable and changeable, its recovery time, and its three settings.
+abbrev pub timed : Bool → Bool → ℕ → Setting → Setting → Setting → Record
+timed saves changes recovery default saved current = record {
+  supported = true;
+  saveable = saves;
+  changeable = changes;
+  recovery = record { 0 = recovery };
+  default = default;
+  saved = saved;
+  current = current;
+}
+
+-- Timers of four different bytes, up to the largest.
+abbrev pub longTimers : Unit
+longTimers = ofPublished (holding (
+    timed false false 101 (on 0x01020304) (timerOff 65535) (timerOff 65536)
+    ∷ timed true false 65535 (timerOff 39321000) (on 0x02030405) (timerOff 0)
+    ∷ timed false true 100 (timerOff 7) (timerOff 8) (on 0x00FFFFFF)
+    ∷ timed true true 0 (timerOff 0) (timerOff 1) (timerOff 256)
+    ∷ timed true true 1 (on 1) (on 2) (on 39321000)
+    ∷ []))
+
 -- ---- the table
 
 pub data Fact : Type 0 where
@@ -165,6 +196,8 @@ pub data Fact : Type 0 where
   page-1A page-51 page-53 page-3 page-out counts-timer counts-deepest counts-use counts-low counts-held counts-cause counts-flush counts-bad counts-fill counts-full : Fact
   resets-keep power-on-counts power-on-held : Fact
   every-fixed every-saved every-unsaved every-none fixed-alone fixed-goes : Fact
+  number-11 draft-11 one-before-11 three-before-11 eleven-not-4 idle-page standby-page old-page : Fact
+  minutes-set minutes-saved minutes-zero draft-minutes state-minutes long-timer-3 long-idle-3 long-numbers idle-goes-on idle-fills : Fact
 
 abbrev pub factOf : Fact → Example
 -- ---- "Numbers given back": each number and its sense, on a call to which its row alone applies.
@@ -172,13 +205,13 @@ abbrev pub factOf : Fact → Example
 factOf number-1 = record { start = fresh; calls = startStop 0 (0x1B ∷ 0 ∷ 0 ∷ 0 ∷ 0 ∷ []) ∷ []; shows = isRefused 1 NoSense }
 -- 2: "host above 3".
 factOf number-2 = record { start = fresh; calls = read 4 ∷ []; shows = isRefused 2 NoSense }
--- 3: "record not well formed": "no timer, recovery time or idle count is above 65,535", each on both sides.
+-- 3: "record not well formed": "no timer, recovery time or idle count is above 65,535", each on both sides, of a draft unit.
 factOf number-3 = record { start = sized 65535 65535 65536; calls = tick ∷ []; shows = isRefused 3 NoSense }
 factOf recovery-3 = record { start = sized 65535 65536 65535; calls = tick ∷ []; shows = isRefused 3 NoSense }
 factOf timer-3 = record { start = sized 65536 65535 65535; calls = tick ∷ []; shows = isRefused 3 NoSense }
 factOf largest-numbers = record { start = sized 65535 65535 65535; calls = tick ∷ []; shows = λ o. o .said ≡ plain Done }
 -- "a waiting request is one START STOP accepts": a go to a condition that is not supported is none.
-factOf slot-3 = record { start = waitingFor (GoTo IdleA) Straight blank; calls = tick ∷ []; shows = isRefused 3 NoSense }
+factOf slot-3 = record { start = waitingFor (GoTo IdleA) Straight (blank Draft); calls = tick ∷ []; shows = isRefused 3 NoSense }
 -- 4: "a command is out (host calls other than the answer; EPC; ..)".
 factOf number-4 = record { start = outUnit; calls = write 1 ∷ []; shows = isRefused 4 NoSense }
 factOf out-read = record { start = outUnit; calls = read 1 ∷ []; shows = isRefused 4 NoSense }
@@ -214,9 +247,9 @@ factOf not-by-saved = record {
   shows = endedGood (withMarks true false (withPower (Low StandbyZ Command) (standbyKept (on 9) off)));
 }
 factOf unsupported-z = record {
-  start = blank;
+  start = blank Draft;
   calls = runWhole 0x04 Good;
-  shows = endedGood (withMarks true false (withPower (Low StandbyZ Command) blank));
+  shows = endedGood (withMarks true false (withPower (Low StandbyZ Command) (blank Draft)));
 }
 -- ---- "READ VERIFY 40h, Count 1, LBA 0."
 factOf verify-sent = record { start = fresh; calls = ssu 0 0 1 ∷ next 0 ∷ []; shows = sends 0x40 0 1 0 }
@@ -274,7 +307,7 @@ factOf flag-off = record {
   calls = epcCall 0x81 0x13 ∷ [];
   shows = λ o. o ≡ done (withIdleA (keeps off (timerOff 20) (timerOff 30)));
 }
--- ---- "A tick .. adds 1 to the idle count, which stays at 65,535."
+-- ---- "A tick .. adds 1 to the idle count, which stays at 65,535", of a draft unit.
 factOf idle-counts = record { start = idled 65534 fresh; calls = tick ∷ []; shows = λ o. o ≡ done (idled 65535 fresh) }
 factOf idle-stays = record { start = idled 65535 fresh; calls = tick ∷ []; shows = λ o. o ≡ done (idled 65535 fresh) }
 -- ---- "Failure is ABORTED COMMAND, COMMAND SEQUENCE ERROR (0B/2C/00)": with the answer, and held with IMMED 1.
@@ -416,6 +449,61 @@ factOf fixed-goes = record {
   calls = epcCall 0x81 0x1 ∷ [];
   shows = λ o. o ≡ done (withPower (Low IdleA Command) (withIdleA (allowing true false (on 10))));
 }
+-- ---- document 02, request (vi). "11, between 4 and 5, for a new page asked of a draft unit or a page above 1".
+factOf number-11 = record { start = ofPublished fresh; calls = newPage 2 (replicate 512 0xA5) ∷ []; shows = isRefused 11 NoSense }
+factOf draft-11 = record { start = fresh; calls = newPage 0 (replicate 512 0xA5) ∷ []; shows = isRefused 11 NoSense }
+factOf one-before-11 = record { start = fresh; calls = newPage 0 (replicate 511 0xA5) ∷ []; shows = isRefused 1 NoSense }
+factOf three-before-11 = record { start = sized 0 0 65536; calls = newPage 2 (replicate 512 0xA5) ∷ []; shows = isRefused 3 NoSense }
+factOf eleven-not-4 = record { start = ofPublished outUnit; calls = newPage 1 (replicate 512 0xA5) ∷ []; shows = λ o. o .said ≡ plain Done }
+-- "page 0 has Idle_A, Idle_B, Idle_C at bytes 0, 64, 128; page 1 has Standby_y at 384, Standby_z at 448. In each: byte 1 flags from bit 7 down ..; bytes 4,
+-- 8, 12 the default, saved and current timers, byte 16 recovery in tenths of a second (the record's milliseconds rounded up), each four bytes, low first".
+factOf idle-page = record {
+  start = longTimers;
+  calls = newPage 0 (replicate 512 0xA5) ∷ [];
+  shows =
+      λ o. o .buffer
+      ≡ (0 ∷ 0x90 ∷ 0 ∷ 0 ∷ 4 ∷ 3 ∷ 2 ∷ 1 ∷ 0xFF ∷ 0xFF ∷ 0 ∷ 0 ∷ 0 ∷ 0 ∷ 1 ∷ 0 ∷ 2 ∷ 0 ∷ 0 ∷ 0 ∷ []) ++ replicate 44 0
+      ++ (0 ∷ 0xC8 ∷ 0 ∷ 0 ∷ 0xA8 ∷ 0xFD ∷ 0x57 ∷ 0x02 ∷ 5 ∷ 4 ∷ 3 ∷ 2 ∷ 0 ∷ 0 ∷ 0 ∷ 0 ∷ 0x90 ∷ 2 ∷ 0 ∷ 0 ∷ []) ++ replicate 44 0
+      ++ (0 ∷ 0xA4 ∷ 0 ∷ 0 ∷ 7 ∷ 0 ∷ 0 ∷ 0 ∷ 8 ∷ 0 ∷ 0 ∷ 0 ∷ 0xFF ∷ 0xFF ∷ 0xFF ∷ 0 ∷ 1 ∷ 0 ∷ 0 ∷ 0 ∷ []) ++ replicate 364 0;
+}
+factOf standby-page = record {
+  start = longTimers;
+  calls = newPage 1 (replicate 512 0xA5) ∷ [];
+  shows =
+      λ o. o .buffer
+      ≡ replicate 384 0
+      ++ (0 ∷ 0xE0 ∷ 0 ∷ 0 ∷ 0 ∷ 0 ∷ 0 ∷ 0 ∷ 1 ∷ 0 ∷ 0 ∷ 0 ∷ 0 ∷ 1 ∷ 0 ∷ 0 ∷ 0 ∷ 0 ∷ 0 ∷ 0 ∷ []) ++ replicate 44 0
+      ++ (0 ∷ 0xFC ∷ 0 ∷ 0 ∷ 1 ∷ 0 ∷ 0 ∷ 0 ∷ 2 ∷ 0 ∷ 0 ∷ 0 ∷ 0xA8 ∷ 0xFD ∷ 0x57 ∷ 0x02 ∷ 1 ∷ 0 ∷ 0 ∷ 0 ∷ []) ++ replicate 44 0;
+}
+-- "the old page asked of a new unit shows FFFFh for more than 65,535": Idle_A's words.
+factOf old-page = record {
+  start = longTimers;
+  calls = logPage (replicate 512 0xA5) ∷ [];
+  shows =
+      λ o. take 16 (o .buffer)
+      ≡ 0x65 ∷ 0 ∷ 0 ∷ 0x80 ∷ 0 ∷ 0x80 ∷ 0xFF ∷ 0xFF ∷ 0 ∷ 0 ∷ 0xFF ∷ 0xFF ∷ 0 ∷ 0 ∷ 0xFF ∷ 0xFF ∷ [];
+}
+-- "Subcommand 2h takes LBA bit 7: one means minutes, 600 tenths each": five minutes, the most, none; "the draft still aborts on bit 7"; so does 3h.
+factOf minutes-set = record {
+  start = idled 7 (ofPublished fresh);
+  calls = epcCall 0x82 0x0005A2 ∷ [];
+  shows = λ o. o ≡ done (ofPublished (withIdleB (keeps off off (on 3000))));
+}
+factOf minutes-saved = record {
+  start = idled 7 (ofPublished fresh);
+  calls = epcCall 0x82 0xFFFFB2 ∷ [];
+  shows = λ o. o ≡ done (ofPublished (withIdleB (keeps off (on 39321000) (on 39321000))));
+}
+factOf minutes-zero = record { start = idled 7 (ofPublished fresh); calls = epcCall 0x82 0x0000A2 ∷ []; shows = λ o. o ≡ done (ofPublished fresh) }
+factOf draft-minutes = record { start = idled 7 fresh; calls = epcCall 0x82 0x0005A2 ∷ []; shows = λ o. o ≡ aborted fresh }
+factOf state-minutes = record { start = idled 7 (ofPublished fresh); calls = epcCall 0x82 0x0000A3 ∷ []; shows = λ o. o ≡ aborted (ofPublished fresh) }
+-- "In the new edition timers reach 39,321,000 and the idle count stays there".
+factOf long-timer-3 = record { start = ofPublished (sized 39321001 0 0); calls = tick ∷ []; shows = isRefused 3 NoSense }
+factOf long-idle-3 = record { start = ofPublished (sized 0 0 39321001); calls = tick ∷ []; shows = isRefused 3 NoSense }
+factOf long-numbers = record { start = ofPublished (sized 39321000 65535 39321000); calls = tick ∷ []; shows = λ o. o .said ≡ plain Done }
+factOf idle-goes-on = record { start = idled 65535 (ofPublished fresh); calls = tick ∷ []; shows = λ o. o ≡ done (idled 65536 (ofPublished fresh)) }
+factOf idle-fills =
+    record { start = idled 39320999 (ofPublished fresh); calls = tick ∷ tick ∷ []; shows = λ o. o ≡ done (idled 39321000 (ofPublished fresh)) }
 
 -- ---- the statement
 

@@ -1,5 +1,6 @@
 pub mod Calls
 pub mod Described
+pub mod Editions
 pub mod Examples
 pub mod Facts
 pub mod Table

@@ -4,9 +4,9 @@ use mathlib.Core.List.{List, [], _∷_}
 use Prim.Native.Nat.{ℕ}
 use lib.Dec.{eqb, leb, ltb}
 use lib.ListN.{drop, length}
-use Rattle.asked.specs.declared.CallLine.the-variants.{Plain, StartStop, Next, Answer, Sense, Log, Transitions}
+use Rattle.asked.specs.declared.CallLine.the-variants.{Plain, StartStop, Next, Answer, Sense, Log, Transitions, NewPage}
 use Rattle.asked.specs.declared.Line.{Line}
-use Rattle.asked.specs.declared.Line.the-variants.{Asks}
+use Rattle.asked.specs.declared.Line.the-variants.{Asks, Makes}
 use Rattle.asked.specs.declared.PlainCall.{PlainCall}
 use Rattle.asked.specs.declared.PlainCall.the-variants.{Tick, Epc, Read, Write, PowerOn, HardReset, SoftReset}
 use Rattle.registers.specs.declared.Registers.{Registers}
@@ -16,8 +16,9 @@ use Rattle.words.specs.Codes.{codes}
 use Rattle.words.specs.Numbers.{isNumber, valueOf}
 use Rattle.words.specs.Words.{words}
 use Rattle.words.specs.declared.Number.{Number}
+use Rattle.asked.specs.Editions.{editionFrom}
 use Rattle.asked.specs.Offers.{offered}
-use Rattle.words.specs.Fields.{hasWords, numberIn, nameIn, hostIn, lengthIn, byteIn, wideIn}
+use Rattle.words.specs.Fields.{hasWords, numberIn, nameIn, hostIn, lengthIn, byteIn, wideIn, flagIn}
 
 -- `tick [N]`: "N single ticks, up to FFFFF (1 if left out)".
 unfoldable pub tickLine : List ℕ → Line
@@ -111,3 +112,13 @@ logLine line = offered (onlyLength line .good) (Asks (Log (onlyLength line .valu
 
 unfoldable pub transitionsLine : List ℕ → Line
 transitionsLine line = offered (onlyLength line .good) (Asks (Transitions (onlyLength line .value)))
+
+-- `page P LEN`: "P 0 to FF".
+unfoldable pub newPageLine : List ℕ → Line
+newPageLine line =
+    offered (hasWords 3 line && byteIn 1 line .good && lengthIn 2 line .good)
+    (Asks (NewPage (byteIn 1 line .value) (lengthIn 2 line .value)))
+
+-- `make E`: "E 0 or 1".
+unfoldable pub makeLine : List ℕ → Line
+makeLine line = offered (hasWords 2 line && flagIn 1 line .good) (Makes (editionFrom (flagIn 1 line .value)))

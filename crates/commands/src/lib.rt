@@ -4,7 +4,7 @@ ghost use Prim.Native.Nat.{_≤_};
 ghost use lib.ListN.{take};
 ghost use Rattle.words.specs.Lines.{lineIn};
 ghost use Rattle.commands.specs.Commands;
-ghost use Rattle.commands.specs.Commands.{onlyHost, onlyLength, tickLine, epcLine, readLine, writeLine, resetLine, startStopLine, nextLine, replyFrom, answerLine, senseLine, logLine, transitionsLine, cdbIn, isCdb};
+ghost use Rattle.commands.specs.Commands.{onlyHost, onlyLength, tickLine, epcLine, readLine, writeLine, resetLine, startStopLine, nextLine, replyFrom, answerLine, senseLine, logLine, transitionsLine, newPageLine, makeLine, cdbIn, isCdb};
 use asked::CallLine;
 use asked::Line;
 use asked::PlainCall;
@@ -166,6 +166,30 @@ pub fn transitions_line(line: &[u8]) -> Line
 {
     let len = only_length(line);
     asked::offered(len.good, Line::Asks(CallLine::Transitions(len.value)))
+}
+
+pub fn new_page_line(line: &[u8]) -> Line
+    ensures { λ r. ⌜ r ≡ newPageLine (now (line .entry)) ⌝ }
+{
+    let n = words::word_count(line);
+    let page = words::number_at(line, 1, 0xFF);
+    let len = words::number_at(line, 2, 0x400);
+    asked::offered(
+        (n == 3) & page.good & len.good,
+        Line::Asks(CallLine::NewPage(page.value, len.value)),
+    )
+}
+
+// Manufacture's first line: those of the conditions follow, up to `end`.
+pub fn make_line(line: &[u8]) -> Line
+    ensures { λ r. ⌜ r ≡ makeLine (now (line .entry)) ⌝ }
+{
+    let n = words::word_count(line);
+    let published = words::flag_at(line, 1);
+    asked::offered(
+        (n == 2) & published.good,
+        Line::Makes(asked::edition_from(published.value)),
+    )
 }
 
 // The bytes from word 2 on; none if one of them is no byte or there are more than 40.

@@ -123,13 +123,18 @@ module _ (top : ℕ) (d : Drive) where
   pub tick-idle : ticked top d .idle .0 ≡ counted top (d .idle .0)
   tick-idle = ap (λ (e : Drive). e .idle .0) tick-whole
 
-  -- "adds 1 to the idle count, which stays at 65,535": that is one more below the largest,
+  -- "adds 1 to the idle count, which stays at" the largest: that is one more below it,
   pub tick-adds-one : d .idle .0 < top → ticked top d .idle .0 ≡ d .idle .0 + 1
   tick-adds-one below = tick-idle ∙ rw (lt-ltb (d .idle .0) top below)
 
-  -- and the same at the largest.
+  -- and the same at it.
   pub tick-at-top : top ≤ d .idle .0 → ticked top d .idle .0 ≡ d .idle .0
   tick-at-top full = tick-idle ∙ rw (le-ltb (d .idle .0) top full)
+
+  -- Below both, it is the same by another largest.
+  pub tick-below : (other : ℕ) → d .idle .0 < top → d .idle .0 < other → ticked top d ≡ ticked other d
+  unfolding ticked
+  tick-below other below below' = rw (lt-ltb (d .idle .0) top below, lt-ltb (d .idle .0) other below')
 
   -- A tick changes no record.
   pub tick-records : ticked top d .records ≡ d .records

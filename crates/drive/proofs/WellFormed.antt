@@ -23,7 +23,7 @@ use Rattle.drive.proofs.Ticks.{tick-records, tick-idle}
 
 -- ---- one setting
 
--- The parts of a well-formed setting: "no timer .. is above 65,535", "an enabled setting has a nonzero timer".
+-- The parts of a well-formed setting: "no timer .. is above" the largest, "an enabled setting has a nonzero timer".
 pub record SettingFine (top : ℕ) (s : Setting) : Type 0 where
   pub small : s .timer .0 ≤ top
   pub nonzero : s .enabled ≡ true → s .timer .0 ≡ 0 → ⊥
@@ -205,6 +205,43 @@ module _ (top : ℕ) (d : Drive) where
   -- A drive is well formed exactly if its records and its idle count are.
   pub drive-fine : (driveWellFormed top d ≡ true) ↔ DriveFine top d
   drive-fine = (drive-apart, drive-together)
+
+-- ---- by another largest timer
+
+-- No timer of a record is above a bound.
+pub record TimersWithin (bound : ℕ) (r : Record) : Type 0 where
+  pub default : r .default .timer .0 ≤ bound
+  pub saved : r .saved .timer .0 ≤ bound
+  pub current : r .current .timer .0 ≤ bound
+
+module _ (top other : ℕ) where
+  setting-within : (s : Setting) → s .timer .0 ≤ other → settingWellFormed top s ≡ true → settingWellFormed other s ≡ true
+  setting-within s small h = setting-together other s (record { small = small; nonzero = setting-apart top s h .nonzero })
+
+  record-within : (r : Record) → TimersWithin other r → recordWellFormed top r ≡ true → recordWellFormed other r ≡ true
+  record-within r small h =
+      let p : RecordFine top r = record-apart top r h in
+      record-together other r (record {
+        recovery = p .recovery;
+        default = setting-within (r .default) (small .default) (p .default);
+        saved = setting-within (r .saved) (small .saved) (p .saved);
+        current = setting-within (r .current) (small .current) (p .current);
+        others = p .others;
+      })
+
+  -- What is well formed by one largest timer is so by any other that no timer and no idle count is above. (z stands where a list has no record.)
+  pub drive-within : (z : Record) (d : Drive) → ((i : ℕ) → i < 5 → TimersWithin other (getD (d .records) i z)) → d .idle .0 ≤ other
+      → driveWellFormed top d ≡ true → driveWellFormed other d ≡ true
+  drive-within z d small idle h =
+      let p : RecordsFine top z (d .records) = records-apart top z (d .records) (drive-apart top d h .records) in
+      drive-together other d (record {
+        records =
+            records-together other z (d .records)
+            (record { five = p .five; each = λ i below. record-within (getD (d .records) i z) (small i below) (p .each i below) });
+        idle = idle;
+      })
+
+-- ---- what changes it keeps it well formed
 
 counted-within : (top n : ℕ) → n ≤ top → counted top n ≤ top
 counted-within top n k = either (ltb n top) refl

@@ -53,7 +53,7 @@ entered p d = driveOf (d .records) p (d .idle .0) (countsAfter (d .power) p (d .
 abbrev pub restarted : Drive → Drive
 restarted d = withIdle 0 d
 
--- "adds 1 to the idle count, which stays at 65,535".
+-- "adds 1 to the idle count, which stays at" the largest timer: 65,535, or of the new edition 39,321,000, "and the idle count stays there".
 abbrev pub counted : ℕ → ℕ → ℕ
 counted top n = cond (ltb n top) (n + 1) n
 

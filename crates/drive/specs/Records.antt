@@ -1,23 +1,27 @@
 -- Document 01, "Conditions and settings": when the records of the five conditions are well formed.
--- The largest timer is a parameter, `top`; recovery times have a bound of their own.
+-- The largest timer is a parameter, `top`, which the edition fixes; recovery times have a bound of their own.
 use mathlib.Core.Bool.{Bool, false, not, _&&_, _||_}
 use mathlib.Core.List.{List}
 use Prim.Native.Nat.{ℕ}
 use lib.Dec.{leb, eqb}
 use lib.ListN.{length}
 use Rattle.rows.specs.Rows.{everyAt}
+use Rattle.drive.specs.declared.Edition.{Edition}
+use Rattle.drive.specs.declared.Edition.the-variants.{Draft, Published}
 use Rattle.drive.specs.declared.Setting.{Setting}
 use Rattle.drive.specs.declared.Record.{Record}
 use Rattle.drive.specs.declared.Drive.{Drive}
 
--- "a timer of 0 to 65,535"; "no timer, recovery time or idle count is above 65,535".
-abbrev pub largest : ℕ
-largest = 65535
+-- "a timer of 0 to 65,535"; "no timer, recovery time or idle count is above 65,535". Document 02, request (vi): "In the new edition timers reach
+-- 39,321,000 and the idle count stays there"; of recovery times it says nothing.
+abbrev pub largestTimer : Edition → ℕ
+largestTimer Draft = 65535
+largestTimer Published = 39321000
 
 abbrev pub largestRecovery : ℕ
 largestRecovery = 65535
 
--- "no timer .. is above 65,535", "an enabled setting has a nonzero timer".
+-- "no timer .. is above" the largest, "an enabled setting has a nonzero timer".
 abbrev pub settingWellFormed : ℕ → Setting → Bool
 settingWellFormed top s = leb (s .timer .0) top && (not (s .enabled) || not (eqb (s .timer .0) 0))
 
@@ -56,7 +60,7 @@ recordWellFormed top r = numbersWellFormed top r && (r .supported || othersZero 
 unfoldable pub recordsWellFormed : ℕ → List Record → Bool
 recordsWellFormed top rs = eqb (length rs) 5 && everyAt (λ at r. recordWellFormed top r) 0 rs
 
--- "no .. idle count is above 65,535". That the cause is timer or command below Active and none in Active, the
+-- "no .. idle count is above" the largest timer. That the cause is timer or command below Active and none in Active, the
 -- type `Power` keeps. Of the transition counts nothing is asked: any 32 bits will do.
 unfoldable pub driveWellFormed : ℕ → Drive → Bool
 driveWellFormed top d = recordsWellFormed top (d .records) && leb (d .idle .0) top

@@ -1,17 +1,22 @@
-// The power conditions of one drive (T13 e08120r9), without registers: settings, timers and the condition the drive is in.
-ghost use mathlib.Core.Bool.{cond, not, _||_};
+// The power conditions of one drive (T13 e08120r9, published ACS-2), without registers: settings, timers and the condition the drive is in.
+ghost use mathlib.Core.Bool.{cond};
 ghost use mathlib.Core.Path.{_≡_};
 ghost use Prim.Native.Nat.{_≤_};
-ghost use lib.Dec.{eqb};
 ghost use Rattle.rows.specs.Rows.{mapAt};
 ghost use Rattle.drive.specs.Drives.{withSettings, withRecords, withIdle, withCounts, entered, restarted, counted, ranOut, timersAsk, byTimer, fallen, used, savedRestored, poweredOn, madeRecord};
 ghost use Rattle.drive.specs.Drives;
 ghost use Rattle.drive.specs.Inner;
-ghost use Rattle.drive.specs.Records.{largest, numbersWellFormed, settingZero, othersZero, recordWellFormed, recordsWellFormed, driveWellFormed};
+ghost use Rattle.drive.specs.Records.{largestTimer, settingWellFormed, numbersWellFormed, settingZero, othersZero, recordWellFormed, recordsWellFormed, driveWellFormed};
 use conditions::Cause;
 use conditions::Power;
 
-// Timers and the idle count: tenths of a second. 32 bits, so that "above 65,535" can be said and refused.
+// The edition of the standard that the drive follows: e08120r9, the draft, or published ACS-2 (document 02, request (vi)).
+pub enum Edition {
+    Draft,
+    Published,
+}
+
+// Timers and the idle count: tenths of a second. 32 bits: published timers need them, and a number above the largest can be said and refused.
 pub struct Tenths(pub u32);
 
 // Recovery times: milliseconds.
@@ -50,11 +55,14 @@ pub struct Made {
     pub default: Setting,
 }
 
-// The largest timer and the largest idle count.
-pub fn largest_timer() -> Tenths
-    ensures { λ r. ⌜ r .0 ≡ largest ⌝ }
+// The largest timer and the largest idle count of an edition.
+pub fn largest_timer(e: Edition) -> Tenths
+    ensures { λ r. ⌜ r .0 ≡ largestTimer e ⌝ }
 {
-    Tenths(65535)
+    match e {
+        Edition::Draft => Tenths(65535),
+        Edition::Published => Tenths(39321000),
+    }
 }
 
 fn setting_zero(s: Setting) -> bool
@@ -75,43 +83,44 @@ pub fn others_zero(r: Record) -> bool
         & setting_zero(r.current)
 }
 
-// The numbers of a record within their bounds. Side by side, they become one comparison.
-fn bounds_ok(top: Tenths, r: Record) -> bool
-    ensures { λ ok. ⌜ ok ≡ Inner.bounds (top .0) r ⌝ }
+// A timer that is set, and within its bound: its flag need not be looked at.
+fn set_within(top: Tenths, s: Setting) -> bool
+    ensures { λ b. ⌜ b ≡ Inner.setWithin (top .0) s ⌝ }
 {
-    (r.recovery.0 <= 65535)
-        & (r.default.timer.0 <= top.0)
-        & (r.saved.timer.0 <= top.0)
-        & (r.current.timer.0 <= top.0)
+    (s.timer.0 != 0) & (s.timer.0 <= top.0)
 }
 
-// An enabled setting has a nonzero timer: the flag as a number is at most the timer.
-fn enabled_ok(s: Setting) -> bool
-    ensures { λ ok. ⌜ ok ≡ not (s .enabled) || not (eqb (s .timer .0) 0) ⌝ }
+fn timers_set(top: Tenths, r: Record) -> bool
+    ensures { λ b. ⌜ b ≡ Inner.timersSet (top .0) r ⌝ }
 {
-    s.enabled as u32 <= s.timer.0
+    set_within(top, r.default) & set_within(top, r.saved) & set_within(top, r.current)
 }
 
+// The timer within its bound; an enabled setting has one that is not zero.
+fn setting_ok(top: Tenths, s: Setting) -> bool
+    ensures { λ ok. ⌜ ok ≡ settingWellFormed (top .0) s ⌝ }
+{
+    if s.timer.0 == 0 {
+        !s.enabled
+    } else {
+        s.timer.0 <= top.0
+    }
+}
+
+// Most records have their timers set, and then the recovery time decides.
 fn numbers_ok(top: Tenths, r: Record) -> bool
     ensures { λ ok. ⌜ ok ≡ numbersWellFormed (top .0) r ⌝ }
 {
-    bounds_ok(top, r) & enabled_ok(r.default) & enabled_ok(r.saved) & enabled_ok(r.current)
+    let recovery = r.recovery.0 <= 65535;
+    if timers_set(top, r) {
+        return recovery;
+    }
+    recovery & setting_ok(top, r.default) & setting_ok(top, r.saved) & setting_ok(top, r.current)
 }
 
-// No timer of the record is zero. Then no enabled flag can be wrong, and a condition that is not supported is.
-fn timers_set(r: Record) -> bool
-    ensures { λ b. ⌜ b ≡ Inner.timersSet r ⌝ }
-{
-    (r.default.timer.0 != 0) & (r.saved.timer.0 != 0) & (r.current.timer.0 != 0)
-}
-
-// Most records have their timers set, and then support and the bounds decide.
 fn record_ok(top: Tenths, r: Record) -> bool
     ensures { λ ok. ⌜ ok ≡ recordWellFormed (top .0) r ⌝ }
 {
-    if timers_set(r) {
-        return r.supported & bounds_ok(top, r);
-    }
     if r.supported {
         numbers_ok(top, r)
     } else {
@@ -132,7 +141,7 @@ fn records_ok(top: Tenths, records: [Record; 5]) -> bool
     ok
 }
 
-// Whether every number and flag of the drive is one that document 01 allows.
+// Whether every number and flag of the drive is one that document 01 allows, with this largest timer.
 pub fn drive_ok(top: Tenths, d: Drive) -> bool
     ensures { λ ok. ⌜ ok ≡ driveWellFormed (top .0) d ⌝ }
 {

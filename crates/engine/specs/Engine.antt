@@ -3,6 +3,7 @@ use mathlib.Core.Bool.{true, false, cond}
 use mathlib.Core.List.{List}
 use Prim.Native.Nat.{ℕ}
 use Rattle.drive.specs.Drives.{ticked, used, poweredOn}
+use Rattle.drive.specs.declared.Edition.{Edition}
 use Rattle.drive.specs.declared.Made.{Made}
 use Rattle.epc.specs.Epc.{aborts, performed}
 use Rattle.registers.specs.declared.Registers.{Registers}
@@ -19,14 +20,14 @@ use Rattle.unit.specs.declared.Unit.{Unit}
 
 -- ---- manufacture
 
--- Number 3 if that makes no well-formed record; then no record of what was asked comes back.
-unfoldable pub manufactureOutcome : List Made → Called
-manufactureOutcome ms = settled blank (madeUnit ms) (lowest (rowsOfRecord (wellFormed (madeUnit ms))))
+-- Number 3 if that makes no well-formed record; then nothing of what was asked comes back but the edition.
+unfoldable pub manufactureOutcome : Edition → List Made → Called
+manufactureOutcome e ms = settled (blank e) (madeUnit e ms) (lowest (rowsOfRecord (wellFormed (madeUnit e ms))))
 
 -- ---- EPC
 
 abbrev pub epcRows : Unit → Registers → List Row
-epcRows u q = rowsOfEpc (wellFormed u) (isOut (u .out)) (aborts q (u .drive .records))
+epcRows u q = rowsOfEpc (wellFormed u) (isOut (u .out)) (aborts (u .edition) q (u .drive .records))
 
 -- "marks stay".
 abbrev pub epcEffect : Registers → Unit → Unit

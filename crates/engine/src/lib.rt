@@ -6,6 +6,7 @@ ghost use Rattle.drive.specs.Drives.{byTimer, fallen};
 ghost use Rattle.engine.specs.Engine.{epcEffect, epcRefused, epcOutcome, manufactureOutcome, tickOutcome, readEffect, readOutcome, writeEffect, writeOutcome, powerOnEffect, powerOnOutcome, hardResetEffect, resetOutcome};
 ghost use Rattle.unit.specs.Units.{blank};
 use conditions::Power;
+use drive::Edition;
 use drive::Made;
 use drive::Tenths;
 use outcomes::Called;
@@ -15,21 +16,25 @@ use refusals::Verdict;
 use registers::Registers;
 use unit::Unit;
 
-// Beside manufacture's refusal stands the blank unit, not what was asked for.
-fn blank_if(refused: bool, u: Unit) -> Unit
-    ensures { λ v. ⌜ v ≡ cond refused blank u ⌝ }
+// Beside manufacture's refusal stands the blank unit of that edition, not what was asked for.
+fn blank_if(refused: bool, edition: Edition, u: Unit) -> Unit
+    ensures { λ v. ⌜ v ≡ cond refused (blank edition) u ⌝ }
 {
-    if refused { unit::blank_unit() } else { u }
+    if refused {
+        unit::blank_unit(edition)
+    } else {
+        u
+    }
 }
 
-// A new unit: current = saved = default, Active, idle count 0, nothing waiting.
-pub fn manufacture(made: [Made; 5]) -> Called
-    ensures { λ c. ⌜ c ≡ manufactureOutcome made ⌝ }
+// A new unit of an edition: current = saved = default, Active, idle count 0, nothing waiting.
+pub fn manufacture(edition: Edition, made: [Made; 5]) -> Called
+    ensures { λ c. ⌜ c ≡ manufactureOutcome edition made ⌝ }
 {
-    let u = unit::made_unit(made);
+    let u = unit::made_unit(edition, made);
     let ok = unit::unit_ok(u);
     let v = refusals::record_verdict(ok);
-    outcomes::settle(v, blank_if(refusals::is_given(v), u))
+    outcomes::settle(v, blank_if(refusals::is_given(v), edition, u))
 }
 
 fn epc_effect(u: Unit, q: Registers) -> Unit
@@ -55,9 +60,10 @@ pub fn set_features(u: Unit, q: Registers) -> Called
     ensures { λ c. ⌜ c ≡ epcOutcome u q ⌝ }
 {
     let ok = unit::unit_ok(u);
+    let edition = u.edition;
     let records = u.drive.records;
     let out = u.out;
-    let v = refusals::epc_verdict(ok, unit::is_out(out), epc::aborts(q, records));
+    let v = refusals::epc_verdict(ok, unit::is_out(out), epc::aborts(edition, q, records));
     match v {
         Verdict::Clear => {
             let changed = epc_effect(u, q);

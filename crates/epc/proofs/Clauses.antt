@@ -3,10 +3,12 @@ use mathlib.Core.Path.{_≡_, refl, sym, ap, _∙_}
 use mathlib.Core.Bool.{Bool, true, false, not, _&&_, _||_}
 use mathlib.Core.List.{List}
 use Prim.Native.Nat.{ℕ}
+use lib.Dec.{eqb}
 use Rattle.rows.specs.Rows.{someAt}
-use Rattle.rows.proofs.Some.{or-right, some-same, some-or, some-when}
+use Rattle.rows.proofs.Some.{or-left, or-right, some-same, some-or, some-when}
+use Rattle.drive.specs.declared.Edition.{Edition}
 use Rattle.drive.specs.declared.Record.{Record}
-use Rattle.epc.specs.Epc.{subOf, save, selects, isGoTo, isEvery, isUnlisted, selectedWithout, aborts}
+use Rattle.epc.specs.Epc.{subOf, reservedInLba, isUnknown, save, selects, isGoTo, isEvery, isUnlisted, selectedWithout, aborts}
 use Rattle.registers.specs.Commands.{named}
 use Rattle.epc.specs.Inner.{misread, misnamed, selectedBarred, unfit}
 use Rattle.epc.specs.declared.Sub.{Sub}
@@ -49,17 +51,17 @@ joined false false false false true b c = refl
 joined false false false false false b c = refl
 
 -- What the code decides is what the paper's clauses say.
-pub together : (q : Registers) (rs : List Record)
-    → (misread q (subOf (q .lba)) || misnamed (isGoTo (subOf (q .lba))) (named (q .count))
+pub together : (e : Edition) (q : Registers) (rs : List Record)
+    → (misread e q (subOf (q .lba)) || misnamed (isGoTo (subOf (q .lba))) (named (q .count))
     || not (someAt (selects (subOf (q .lba)) (named (q .count))) 0 rs)
     || someAt (selectedBarred (subOf (q .lba)) (named (q .count)) (save (q .lba))) 0 rs)
-    ≡ aborts q rs
+    ≡ aborts e q rs
 unfolding aborts
-together q rs =
+together e q rs =
     let sub = subOf (q .lba) in
     let n = named (q .count) in
     rw (barred-apart sub n (save (q .lba)) rs)
-    (joined (misread q sub) (isUnlisted n) (isGoTo sub && isEvery n) (not (someAt (selects sub n) 0 rs)) (selectedWithout (λ r. r .supported) sub n rs)
+    (joined (misread e q sub) (isUnlisted n) (isGoTo sub && isEvery n) (not (someAt (selects sub n) 0 rs)) (selectedWithout (λ r. r .supported) sub n rs)
     (not (isGoTo sub) && selectedWithout (λ r. r .changeable) sub n rs)
     (save (q .lba) && selectedWithout (λ r. r .saveable) sub n rs))
 
@@ -68,20 +70,26 @@ regrouped true n s b = refl
 regrouped false n s b = refl
 
 -- The registers alone first, then Count and the records.
-pub in-turn : (q : Registers) (rs : List Record)
-    → (misread q (subOf (q .lba)) || unfit (subOf (q .lba)) (named (q .count)) (save (q .lba)) rs) ≡ aborts q rs
-in-turn q rs =
+pub in-turn : (e : Edition) (q : Registers) (rs : List Record)
+    → (misread e q (subOf (q .lba)) || unfit (subOf (q .lba)) (named (q .count)) (save (q .lba)) rs) ≡ aborts e q rs
+in-turn e q rs =
     let sub = subOf (q .lba) in
     let n = named (q .count) in
     sym
-    (regrouped (misread q sub) (misnamed (isGoTo sub) n) (not (someAt (selects sub n) 0 rs)) (someAt (selectedBarred sub n (save (q .lba))) 0 rs))
-    ∙ together q rs
+    (regrouped (misread e q sub) (misnamed (isGoTo sub) n) (not (someAt (selects sub n) 0 rs)) (someAt (selectedBarred sub n (save (q .lba))) 0 rs))
+    ∙ together e q rs
 
--- Where nothing aborts, no selected condition bars the subcommand.
-pub none-barred : (q : Registers) (rs : List Record) → aborts q rs ≡ false
+-- Where nothing aborts, no reserved bit is one,
+pub none-reserved : (e : Edition) (q : Registers) (rs : List Record) → aborts e q rs ≡ false → reservedInLba e (subOf (q .lba)) (q .lba) ≡ false
+none-reserved e q rs h =
+    or-right (not (eqb (q .command) 0xEF) || not (eqb (q .feature) 0x4A) || isUnknown (subOf (q .lba))) _
+    (or-left (misread e q (subOf (q .lba))) _ (in-turn e q rs ∙ h))
+
+-- and no selected condition bars the subcommand.
+pub none-barred : (e : Edition) (q : Registers) (rs : List Record) → aborts e q rs ≡ false
     → someAt (selectedBarred (subOf (q .lba)) (named (q .count)) (save (q .lba))) 0 rs ≡ false
-none-barred q rs h =
+none-barred e q rs h =
     or-right
-    (misread q (subOf (q .lba)) || misnamed (isGoTo (subOf (q .lba))) (named (q .count)) || not (someAt (selects (subOf (q .lba)) (named (q .count))) 0 rs))
+    (misread e q (subOf (q .lba)) || misnamed (isGoTo (subOf (q .lba))) (named (q .count)) || not (someAt (selects (subOf (q .lba)) (named (q .count))) 0 rs))
     _
-    (together q rs ∙ h)
+    (together e q rs ∙ h)

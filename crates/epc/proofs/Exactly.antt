@@ -15,6 +15,7 @@ use Rattle.rows.proofs.Places.{and-left, and-right}
 use Rattle.rows.proofs.Some.{or-left, or-right, none-at, none-from, some-from, some-place}
 use Rattle.conditions.specs.Conditions.{placeOf}
 use Rattle.drive.specs.Records.{unsupported}
+use Rattle.drive.specs.declared.Edition.{Edition}
 use Rattle.drive.specs.declared.Record.{Record}
 use Rattle.bits.specs.Bits.{bits, bit}
 use Rattle.bits.specs.Reserved.{isNamed}
@@ -43,18 +44,18 @@ pub record Allows (lba : ℕ) (r : Record) : Type 0 where
   pub saveable : bit 4 lba ≡ true → r .saveable ≡ true
 
 -- The registers alone are right.
-pub record Reads (q : Registers) : Type 0 where
+pub record Reads (ed : Edition) (q : Registers) : Type 0 where
   -- "command or feature differs;"
   pub command : q .command ≡ 0xEF
   pub feature : q .feature ≡ 0x4A
   -- "subcommand above 3h;"
   pub number : bits 3 0 (q .lba) ≤ 3
   -- "a reserved bit is one;"
-  pub reserved : (k : ℕ) → k < 32 → isNamed k (namedBits (bits 3 0 (q .lba))) ≡ false → bit k (q .lba) ≡ false
+  pub reserved : (k : ℕ) → k < 32 → isNamed k (namedBits ed (bits 3 0 (q .lba))) ≡ false → bit k (q .lba) ≡ false
 
 -- What an accepted subcommand has. (z stands where a list has no record.)
-pub record Accepted (q : Registers) (rs : List Record) (z : Record) : Type 0 where
-  pub reads : Reads q
+pub record Accepted (ed : Edition) (q : Registers) (rs : List Record) (z : Record) : Type 0 where
+  pub reads : Reads ed q
   -- "Count not listed; no selected condition,"
   pub place : ℕ
   pub within : place < length rs
@@ -123,7 +124,7 @@ module _ (lba : ℕ) (r : Record) where
 
 -- ---- the law
 
-module _ (q : Registers) (rs : List Record) (z : Record) where
+module _ (ed : Edition) (q : Registers) (rs : List Record) (z : Record) where
   abbrev sub : Sub
   sub = subOf (q .lba)
 
@@ -133,32 +134,33 @@ module _ (q : Registers) (rs : List Record) (z : Record) where
   abbrev number : ℕ
   number = bits 3 0 (q .lba)
 
-  read-right : misread q sub ≡ false → Reads q
+  read-right : misread ed q sub ≡ false → Reads ed q
   read-right h =
       let command = not (eqb (q .command) 0xEF) in
       let codes = command || not (eqb (q .feature) 0x4A) in
-      let apart : (codes || (isUnknown sub || reservedInLba sub (q .lba))) ≡ false = sym (or-assoc codes (isUnknown sub) (reservedInLba sub (q .lba))) ∙ h in
-      let named-bits = sym (reserved-exactly (q .lba)) ∙ or-right codes _ apart in
+      let apart : (codes || (isUnknown sub || reservedInLba ed sub (q .lba))) ≡ false =
+      sym (or-assoc codes (isUnknown sub) (reservedInLba ed sub (q .lba))) ∙ h in
+      let named-bits = sym (reserved-exactly ed (q .lba)) ∙ or-right codes _ apart in
       record {
         command = eqb-true _ _ (not-false _ (or-left command _ (or-left codes _ apart)));
         feature = eqb-true _ _ (not-false _ (or-right command _ (or-left codes _ apart)));
         number = ltb-false 3 number (or-left (ltb 3 number) _ named-bits);
-        reserved = λ k below. unnamed-none 31 (namedBits number) (q .lba) (or-right (ltb 3 number) _ named-bits) k (le-of-suc-le-suc below);
+        reserved = λ k below. unnamed-none 31 (namedBits ed number) (q .lba) (or-right (ltb 3 number) _ named-bits) k (le-of-suc-le-suc below);
       }
 
-  right-read : Reads q → misread q sub ≡ false
+  right-read : Reads ed q → misread ed q sub ≡ false
   right-read r =
-      let named-bits : (isUnknown sub || reservedInLba sub (q .lba)) ≡ false =
-      reserved-exactly (q .lba) ∙ rw (le-ltb 3 number (r .number), unnamed-zero 31 (namedBits number) (q .lba) (λ k to. r .reserved k (suc-le-suc to))) in
+      let named-bits : (isUnknown sub || reservedInLba ed sub (q .lba)) ≡ false =
+      reserved-exactly ed (q .lba) ∙ rw (le-ltb 3 number (r .number), unnamed-zero 31 (namedBits ed number) (q .lba) (λ k to. r .reserved k (suc-le-suc to))) in
       rw (eq-eqb _ _ (r .command), eq-eqb _ _ (r .feature)) named-bits
 
-  accepted-has : aborts q rs ≡ false → Accepted q rs z
+  accepted-has : aborts ed q rs ≡ false → Accepted ed q rs z
   accepted-has h =
-      let wrong = misread q sub || misnamed (isGoTo sub) n in
+      let wrong = misread ed q sub || misnamed (isGoTo sub) n in
       let nothing = not (someAt (selects sub n) 0 rs) in
-      let all = together q rs ∙ h in
-      let right = read-right (or-left (misread q sub) _ (or-left wrong nothing (or-left (wrong || nothing) _ all))) in
-      let named-one = or-right (misread q sub) _ (or-left wrong nothing (or-left (wrong || nothing) _ all)) in
+      let all = together ed q rs ∙ h in
+      let right = read-right (or-left (misread ed q sub) _ (or-left wrong nothing (or-left (wrong || nothing) _ all))) in
+      let named-one = or-right (misread ed q sub) _ (or-left wrong nothing (or-left (wrong || nothing) _ all)) in
       let some = some-place (selects sub n) 0 rs z (not-false _ (or-right wrong nothing (or-left (wrong || nothing) _ all))) in
       let free = none-at (selectedBarred sub n (save (q .lba))) rs z (or-right (wrong || nothing) _ all) in
       record {
@@ -170,11 +172,11 @@ module _ (q : Registers) (rs : List Record) (z : Record) where
         allow = λ i k e. unbarred-allows (q .lba) (getD rs i z) (rw (names-selects (q .lba) n i (getD rs i z) e) at (free i k));
       }
 
-  has-accepted : Accepted q rs z → aborts q rs ≡ false
+  has-accepted : Accepted ed q rs z → aborts ed q rs ≡ false
   has-accepted a =
       let some = some-from (selects sub n) rs z (a .place) (a .within) (names-selects (q .lba) n (a .place) (getD rs (a .place) z) (a .names)) in
       let none = none-from (selectedBarred sub n (save (q .lba))) rs z (λ j l. free (getD rs j z) j (selects sub n j (getD rs j z)) refl (a .allow j l)) in
-      sym (together q rs)
+      sym (together ed q rs)
       ∙ rw (
         right-read (a .reads),
         names-listed number n (a .place) (getD rs (a .place) z) (a .names),
@@ -194,20 +196,20 @@ module _ (q : Registers) (rs : List Record) (z : Record) where
       lone false every g e = refl
 
   -- A subcommand is accepted exactly if it has all this: "FFh is all or nothing".
-  pub accepted-exactly : (aborts q rs ≡ false) ↔ Accepted q rs z
+  pub accepted-exactly : (aborts ed q rs ≡ false) ↔ Accepted ed q rs z
   accepted-exactly = (accepted-has, has-accepted)
 
 -- So an LBA aborts with any bit that is not named, whatever else the registers say, and with a number above 3h.
-module _ (q : Registers) (rs : List Record) where
-  unless : (Accepted q rs unsupported → ⊥) → aborts q rs ≡ true
-  unless none = on (aborts q rs) refl
+module _ (ed : Edition) (q : Registers) (rs : List Record) where
+  unless : (Accepted ed q rs unsupported → ⊥) → aborts ed q rs ≡ true
+  unless none = on (aborts ed q rs) refl
     where
-      on : (b : Bool) → aborts q rs ≡ b → aborts q rs ≡ true
+      on : (b : Bool) → aborts ed q rs ≡ b → aborts ed q rs ≡ true
       on true e = e
-      on false e = absurd (none (accepted-has q rs unsupported e))
+      on false e = absurd (none (accepted-has ed q rs unsupported e))
 
-  pub reserved-aborts : (k : ℕ) → k < 32 → isNamed k (namedBits (bits 3 0 (q .lba))) ≡ false → bit k (q .lba) ≡ true → aborts q rs ≡ true
+  pub reserved-aborts : (k : ℕ) → k < 32 → isNamed k (namedBits ed (bits 3 0 (q .lba))) ≡ false → bit k (q .lba) ≡ true → aborts ed q rs ≡ true
   reserved-aborts k below unnamed one = unless (λ a. true≢false (sym one ∙ a .reads .reserved k below unnamed))
 
-  pub unknown-aborts : 3 < bits 3 0 (q .lba) → aborts q rs ≡ true
+  pub unknown-aborts : 3 < bits 3 0 (q .lba) → aborts ed q rs ≡ true
   unknown-aborts above = unless (λ a. omega (arith, a .reads .number))

@@ -13,6 +13,7 @@ use Rattle.rows.proofs.Mapped.{place-kept}
 use Rattle.rows.proofs.Places.{and-both, getD-mapAt}
 use Rattle.conditions.specs.Conditions.{placeOf}
 use Rattle.conditions.specs.declared.Condition.{Condition}
+use Rattle.drive.specs.declared.Edition.{Edition}
 use Rattle.drive.specs.declared.Record.{Record}
 use Rattle.drive.specs.declared.Drive.{Drive}
 use Rattle.bits.specs.Bits.{bits, bit}
@@ -36,7 +37,7 @@ pub record EveryFits (lba : ℕ) (rs : List Record) (z : Record) : Type 0 where
   pub changeable : getD rs place z .changeable ≡ true
   pub saveable : bit 4 lba ≡ true → (i : ℕ) → i < length rs → getD rs i z .supported ≡ true → getD rs i z .changeable ≡ true → getD rs i z .saveable ≡ true
 
-module _ (q : Registers) (rs : List Record) (z : Record) (all : named (q .count) ≡ Every) where
+module _ (ed : Edition) (q : Registers) (rs : List Record) (z : Record) (all : named (q .count) ≡ Every) where
   abbrev number : ℕ
   number = bits 3 0 (q .lba)
 
@@ -49,10 +50,10 @@ module _ (q : Registers) (rs : List Record) (z : Record) (all : named (q .count)
 
   -- "For subcommands 0h, 2h and 3h FFh now selects the supported and changeable conditions, and aborts if there are none. With bit 4, any selected one
   -- that isn't saveable still aborts everything."
-  pub every-exactly : (aborts q rs ≡ false) ↔ (Reads q × (number ≡ 1 → ⊥) × EveryFits (q .lba) rs z)
-  every-exactly = (λ h. fits (accepted-exactly q rs z .0 h), λ h. accepted-exactly q rs z .1 (allowed (h .0) (h .1) (h .2)))
+  pub every-exactly : (aborts ed q rs ≡ false) ↔ (Reads ed q × (number ≡ 1 → ⊥) × EveryFits (q .lba) rs z)
+  every-exactly = (λ h. fits (accepted-exactly ed q rs z .0 h), λ h. accepted-exactly ed q rs z .1 (allowed (h .0) (h .1) (h .2)))
     where
-      fits : Accepted q rs z → Reads q × (number ≡ 1 → ⊥) × EveryFits (q .lba) rs z
+      fits : Accepted ed q rs z → Reads ed q × (number ≡ 1 → ⊥) × EveryFits (q .lba) rs z
       fits a =
           let other : number ≡ 1 → ⊥ = λ one. a .one one all in
           let one = named-all (a .place) (getD rs (a .place) z) (a .names) in (
@@ -67,7 +68,7 @@ module _ (q : Registers) (rs : List Record) (z : Record) (all : named (q .count)
             },
           )
 
-      allowed : Reads q → (number ≡ 1 → ⊥) → EveryFits (q .lba) rs z → Accepted q rs z
+      allowed : Reads ed q → (number ≡ 1 → ⊥) → EveryFits (q .lba) rs z → Accepted ed q rs z
       allowed reads other f = record {
         reads = reads;
         place = f .place;
@@ -99,16 +100,16 @@ module _ (q : Registers) (d : Drive) (z : Record) (i : ℕ) where
       (chosen (λ (l : List Record). getD l i z ≡ here) (isGoTo sub) _ _ (λ _. refl) (λ _. place-kept (changedAt q) (d .records) i z (rw e)))
 
   -- A condition that is not changeable keeps its record through every subcommand that is accepted, whatever Count names.
-  pub unchangeable-stays : aborts q (d .records) ≡ false → i < length (d .records) → here .changeable ≡ false
+  pub unchangeable-stays : (ed : Edition) → aborts ed q (d .records) ≡ false → i < length (d .records) → here .changeable ≡ false
       → getD (performed q d .records) i z ≡ here
-  unchangeable-stays accepted within fixed = on (isGoTo sub) refl (selects sub (named (q .count)) i here) refl
+  unchangeable-stays ed accepted within fixed = on (isGoTo sub) refl (selects sub (named (q .count)) i here) refl
     where
       on : (goes : Bool) → isGoTo sub ≡ goes → (selected : Bool) → selects sub (named (q .count)) i here ≡ selected
           → getD (performed q d .records) i z ≡ here
       on true g selected e = rw (records-after q d, g)
       on false g false e = unselected-stays e
       on false g true e =
-          let own = accepted-exactly q (d .records) z .0 accepted .allow i within (selects-names (q .lba) (named (q .count)) i here e) in
+          let own = accepted-exactly ed q (d .records) z .0 accepted .allow i within (selects-names (q .lba) (named (q .count)) i here e) in
           let other : bits 3 0 (q .lba) ≡ 1 → ⊥ = λ one. true≢false (sym (goes-one (q .lba) ∙ eq-eqb _ _ one) ∙ g) in
           absurd (true≢false (sym (own .changeable other) ∙ fixed))
 
@@ -125,20 +126,20 @@ named-own number c i r = subst (λ (n : Named). Names number n i r) (code-names 
 own-named : (number : ℕ) (c : Condition) (r : Record) → Names number (named (countCode c)) (placeOf c) r
 own-named number c r = subst (λ (n : Named). Names number n (placeOf c) r) (sym (code-names c)) refl
 
-module _ (q : Registers) (d : Drive) (z : Record) (all : named (q .count) ≡ Every) (accepted : aborts q (d .records) ≡ false) where
+module _ (ed : Edition) (q : Registers) (d : Drive) (z : Record) (all : named (q .count) ≡ Every) (accepted : aborts ed q (d .records) ≡ false) where
   abbrev Fit : Type 0
-  Fit = Reads q × (bits 3 0 (q .lba) ≡ 1 → ⊥) × EveryFits (q .lba) (d .records) z
+  Fit = Reads ed q × (bits 3 0 (q .lba) ≡ 1 → ⊥) × EveryFits (q .lba) (d .records) z
 
   fit : Fit
-  fit = every-exactly q (d .records) z all .0 accepted
+  fit = every-exactly ed q (d .records) z all .0 accepted
 
   -- A condition that an accepted FFh selects: its own Count is accepted too, and leaves it the same.
   pub as-alone : (c : Condition) → placeOf c < length (d .records)
       → getD (d .records) (placeOf c) z .supported ≡ true → getD (d .records) (placeOf c) z .changeable ≡ true
-      → (aborts (alone c q) (d .records) ≡ false)
+      → (aborts ed (alone c q) (d .records) ≡ false)
       × (getD (performed q d .records) (placeOf c) z ≡ getD (performed (alone c q) d .records) (placeOf c) z)
   as-alone c within sup chg = (
-    accepted-exactly (alone c q) (d .records) z .1 accepted-alone,
+    accepted-exactly ed (alone c q) (d .records) z .1 accepted-alone,
     selected-changes q d z (placeOf c) other within (rw (all, sup, chg, other))
         ∙ sym (selected-changes (alone c q) d z (placeOf c) other within (rw (code-names c, eq-eqb (placeOf c) (placeOf c) refl))),
   )
@@ -149,7 +150,7 @@ module _ (q : Registers) (d : Drive) (z : Record) (all : named (q .count) ≡ Ev
       allows : Allows (q .lba) (getD (d .records) (placeOf c) z)
       allows = record { supported = sup; changeable = λ _. chg; saveable = λ saves. fit .2 .saveable saves (placeOf c) within sup chg }
 
-      accepted-alone : Accepted (alone c q) (d .records) z
+      accepted-alone : Accepted ed (alone c q) (d .records) z
       accepted-alone = record {
         reads = record {
           command = fit .0 .command;
@@ -166,14 +167,14 @@ module _ (q : Registers) (d : Drive) (z : Record) (all : named (q .count) ≡ Ev
 
   -- One that it does not select is not "supported and changeable", and its own Count aborts.
   pub alone-aborts : (c : Condition) → placeOf c < length (d .records)
-      → (getD (d .records) (placeOf c) z .supported && getD (d .records) (placeOf c) z .changeable) ≡ false → aborts (alone c q) (d .records) ≡ true
-  alone-aborts c within e = on (aborts (alone c q) (d .records)) refl
+      → (getD (d .records) (placeOf c) z .supported && getD (d .records) (placeOf c) z .changeable) ≡ false → aborts ed (alone c q) (d .records) ≡ true
+  alone-aborts c within e = on (aborts ed (alone c q) (d .records)) refl
     where
-      on : (b : Bool) → aborts (alone c q) (d .records) ≡ b → b ≡ true
+      on : (b : Bool) → aborts ed (alone c q) (d .records) ≡ b → b ≡ true
       on true h = refl
       on false h =
           let here = own-named (bits 3 0 (q .lba)) c (getD (d .records) (placeOf c) z) in
-          let own = accepted-exactly (alone c q) (d .records) z .0 h .allow (placeOf c) within here in
+          let own = accepted-exactly ed (alone c q) (d .records) z .0 h .allow (placeOf c) within here in
           absurd (true≢false (sym (and-both _ _ (own .supported) (own .changeable (fit .1))) ∙ e))
 
   -- It keeps its record.

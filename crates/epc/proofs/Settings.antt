@@ -4,7 +4,7 @@
 use mathlib.Core.Path.{_≡_, refl}
 use mathlib.Core.Bool.{true, false, not, _&&_}
 use mathlib.Core.Logic.{_↔_}
-use Prim.Native.Nat.{ℕ, _<_, _≤_}
+use Prim.Native.Nat.{ℕ, _*_, _<_, _≤_}
 use native.Mathlib.Omega.{arith}
 use lib.Dec.{eqb}
 use lib.ListN.{length, getD}
@@ -16,7 +16,7 @@ use Rattle.drive.specs.declared.Drive.{Drive}
 use Rattle.bits.specs.Bits.{bits, bit}
 use Rattle.registers.specs.Commands.{named}
 use Rattle.registers.specs.declared.Registers.{Registers}
-use Rattle.epc.specs.Epc.{subOf, changed, performed}
+use Rattle.epc.specs.Epc.{subOf, timerIn, changed, performed}
 use Rattle.epc.proofs.Exactly.{Names, not-goes, names-selects}
 use Rattle.epc.proofs.Reserved.{by-number}
 use Rattle.epc.proofs.Selected.{selected-changes}
@@ -30,8 +30,10 @@ pub record Follows (number lba : ℕ) (r s : Record) : Type 0 where
   -- "0h": "current becomes default (bit 6 one) or saved";
   pub from-default : number ≡ 0 → bit 6 lba ≡ true → s .current ≡ r .default
   pub from-saved : number ≡ 0 → bit 6 lba ≡ false → s .current ≡ r .saved
-  -- "2h": "current timer set; flag is enable and timer nonzero";
-  pub timer : number ≡ 2 → (s .current .timer .0 ≡ bits 23 8 lba) × FlagBy lba (s .current)
+  -- "2h": "current timer set; flag is enable and timer nonzero"; document 02, request (vi): "one means minutes, 600 tenths each";
+  pub flag : number ≡ 2 → FlagBy lba (s .current)
+  pub in-tenths : number ≡ 2 → bit 7 lba ≡ false → s .current .timer .0 ≡ bits 23 8 lba
+  pub in-minutes : number ≡ 2 → bit 7 lba ≡ true → s .current .timer .0 ≡ 600 * bits 23 8 lba
   -- "3h": "current flag is enable and current timer nonzero";
   pub state : number ≡ 3 → (s .current .timer .0 ≡ r .current .timer .0) × FlagBy lba (s .current)
   -- "with bit 4, saved takes the same setting"; "bit 4: saved likewise"; "bit 4: saved flag likewise from the saved timer";
@@ -53,7 +55,9 @@ module _ (lba : ℕ) where
       (λ other small. record {
         from-default = λ n e. rw e;
         from-saved = λ n e. rw e;
-        timer = λ n. absurd (omega (arith, n));
+        flag = λ n. absurd (omega (arith, n));
+        in-tenths = λ n. absurd (omega (arith, n));
+        in-minutes = λ n. absurd (omega (arith, n));
         state = λ n. absurd (omega (arith, n));
         saves = λ e n. rw e;
         saves-flag = λ e n. absurd (omega (arith, n));
@@ -63,7 +67,9 @@ module _ (lba : ℕ) where
       (λ other small. record {
         from-default = λ n. absurd (omega (arith, n));
         from-saved = λ n. absurd (omega (arith, n));
-        timer = λ n. (refl, flag-set (bits 23 8 lba));
+        flag = λ n. flag-set (timerIn lba);
+        in-tenths = λ n e. rw e;
+        in-minutes = λ n e. rw e;
         state = λ n. absurd (omega (arith, n));
         saves = λ e n. rw e;
         saves-flag = λ e n. absurd (omega (arith, n));
@@ -72,7 +78,9 @@ module _ (lba : ℕ) where
       (λ other small. record {
         from-default = λ n. absurd (omega (arith, n));
         from-saved = λ n. absurd (omega (arith, n));
-        timer = λ n. absurd (omega (arith, n));
+        flag = λ n. absurd (omega (arith, n));
+        in-tenths = λ n. absurd (omega (arith, n));
+        in-minutes = λ n. absurd (omega (arith, n));
         state = λ n. (refl, flag-set (r .current .timer .0));
         saves = λ e n. absurd (n refl);
         saves-flag = λ e n. rw e (refl, flag-set (r .saved .timer .0));

@@ -1,13 +1,15 @@
--- Document 01, "EPC registers": what SET FEATURES EPC selects, when it aborts and what it changes.
+-- Document 01, "EPC registers": what SET FEATURES EPC selects, when it aborts and what it changes; document 02, requests (iv) and (vi).
 use mathlib.Core.Bool.{Bool, true, false, not, _&&_, _||_, cond}
 use mathlib.Core.List.{List}
-use Prim.Native.Nat.{ℕ}
+use Prim.Native.Nat.{ℕ, _*_}
 use lib.Dec.{eqb}
 use Rattle.rows.specs.Rows.{someAt, mapAt}
 use Rattle.conditions.specs.Conditions.{placeOf}
 use Rattle.drive.specs.Drives.{withSettings, withRecords, entered, restarted}
 use Rattle.conditions.specs.declared.Cause.the-variants.{Command}
 use Rattle.conditions.specs.declared.Power.the-variants.{Low}
+use Rattle.drive.specs.declared.Edition.{Edition}
+use Rattle.drive.specs.declared.Edition.the-variants.{Draft, Published}
 use Rattle.drive.specs.declared.Setting.{Setting}
 use Rattle.drive.specs.declared.Record.{Record}
 use Rattle.drive.specs.declared.Drive.{Drive}
@@ -39,17 +41,27 @@ enable lba = bit 5 lba
 abbrev pub save : ℕ → Bool
 save lba = bit 4 lba
 
+-- Document 02, request (vi): "Subcommand 2h takes LBA bit 7: one means minutes, 600 tenths each."
+abbrev pub minutes : ℕ → Bool
+minutes lba = bit 7 lba
+
+-- Only a published unit comes here with bit 7.
 abbrev pub timerIn : ℕ → ℕ
-timerIn lba = bits 23 8 lba
+timerIn lba = cond (minutes lba) (600 * bits 23 8 lba) (bits 23 8 lba)
+
+-- Of 2h, a reserved bit below the timer: "the draft still aborts on bit 7".
+abbrev pub reservedBelow : Edition → ℕ → Bool
+reservedBelow Draft lba = someOne 7 6 lba
+reservedBelow Published lba = someOne 6 6 lba
 
 -- "Bits not named are reserved": LBA comes as 32 bits, of which no subcommand names one above 23. An unknown
 -- subcommand names none; it aborts before its bits are looked at.
-abbrev pub reservedInLba : Sub → ℕ → Bool
-reservedInLba Restore lba = someOne 5 5 lba || someOne 31 7 lba
-reservedInLba GoTo lba = someOne 31 4 lba
-reservedInLba SetTimer lba = someOne 7 6 lba || someOne 31 24 lba
-reservedInLba SetState lba = someOne 31 6 lba
-reservedInLba Unknown lba = false
+abbrev pub reservedInLba : Edition → Sub → ℕ → Bool
+reservedInLba e Restore lba = someOne 5 5 lba || someOne 31 7 lba
+reservedInLba e GoTo lba = someOne 31 4 lba
+reservedInLba e SetTimer lba = reservedBelow e lba || someOne 31 24 lba
+reservedInLba e SetState lba = someOne 31 6 lba
+reservedInLba e Unknown lba = false
 
 abbrev pub isUnknown : Sub → Bool
 isUnknown Restore = false
@@ -92,14 +104,14 @@ abbrev pub selectedWithout : (Record → Bool) → Sub → Named → List Record
 selectedWithout has sub n rs = someAt (λ place r. selects sub n place r && not (has r)) 0 rs
 
 -- "Aborted exactly if:"
-unfoldable pub aborts : Registers → List Record → Bool
-aborts q rs =
+unfoldable pub aborts : Edition → Registers → List Record → Bool
+aborts e q rs =
     -- "command or feature differs;"
     not (eqb (q .command) 0xEF) || not (eqb (q .feature) 0x4A)
     -- "subcommand above 3h;"
     || isUnknown (subOf (q .lba))
     -- "a reserved bit is one;"
-    || reservedInLba (subOf (q .lba)) (q .lba)
+    || reservedInLba e (subOf (q .lba)) (q .lba)
     -- "Count not listed;"
     || isUnlisted (named (q .count))
     -- "no selected condition, or one unsupported;" of FFh, request (iv): "and aborts if there are none".

@@ -5,6 +5,7 @@ use mathlib.Core.List.{List}
 use Prim.Native.Nat.{ℕ}
 use lib.Dec.{eqb}
 use Rattle.rows.specs.Rows.{someAt}
+use Rattle.drive.specs.declared.Edition.{Edition}
 use Rattle.drive.specs.declared.Record.{Record}
 use Rattle.epc.specs.Epc.{isUnknown, isGoTo, reservedInLba, isUnlisted, isEvery, selects, changed}
 use Rattle.registers.specs.declared.Registers.{Registers}
@@ -12,8 +13,8 @@ use Rattle.epc.specs.declared.Sub.{Sub}
 use Rattle.registers.specs.declared.Named.{Named}
 
 -- The registers alone: command, feature, subcommand, reserved bits.
-abbrev pub misread : Registers → Sub → Bool
-misread q sub = not (eqb (q .command) 0xEF) || not (eqb (q .feature) 0x4A) || isUnknown sub || reservedInLba sub (q .lba)
+abbrev pub misread : Edition → Registers → Sub → Bool
+misread e q sub = not (eqb (q .command) 0xEF) || not (eqb (q .feature) 0x4A) || isUnknown sub || reservedInLba e sub (q .lba)
 
 -- Count: not listed, or FFh for a go to.
 abbrev pub misnamed : Bool → Named → Bool

@@ -1,9 +1,9 @@
-// The registers of SET FEATURES EPC (T13 e08120r9): what they select, when they abort, what they change.
+// The registers of SET FEATURES EPC (T13 e08120r9, published ACS-2): what they select, when they abort, what they change.
 ghost use mathlib.Core.Bool.{cond};
 ghost use mathlib.Core.Path.{_≡_};
 ghost use Rattle.rows.specs.Rows.{someAt, mapAt};
 ghost use Rattle.drive.specs.Drives.{withSettings, entered};
-ghost use Rattle.epc.specs.Epc.{subOf, reservedInLba, isUnknown, isGoTo, restoredFrom, savedToo, timerSet, flagSet, changed, changedAt, goneTo, performed};
+ghost use Rattle.epc.specs.Epc.{subOf, reservedBelow, reservedInLba, isUnknown, isGoTo, restoredFrom, savedToo, timerIn, timerSet, flagSet, changed, changedAt, goneTo, performed};
 ghost use Rattle.epc.specs.Epc;
 ghost use Rattle.epc.specs.Inner;
 ghost use Rattle.registers.specs.declared.Named.the-variants.{One, Every};
@@ -11,6 +11,7 @@ use conditions::Cause;
 use conditions::Condition;
 use conditions::Power;
 use drive::Drive;
+use drive::Edition;
 use drive::Record;
 use drive::Setting;
 use drive::Tenths;
@@ -45,14 +46,24 @@ fn save(lba: u32) -> bool
     (lba >> 4) % 2 != 0
 }
 
+// Of 2h, a reserved bit below the timer: published ACS-2 names bit 7, "the draft still aborts on bit 7" (document 02, request (vi)).
+fn reserved_below(e: Edition, lba: u32) -> bool
+    ensures { λ r. ⌜ r ≡ reservedBelow e lba ⌝ }
+{
+    match e {
+        Edition::Draft => (lba >> 6) % 4 != 0,
+        Edition::Published => (lba >> 6) % 2 != 0,
+    }
+}
+
 // Bits not named are reserved: whether one of them is one. A u32 has no bit above 31, so `lba >> 7` is bits 31:7.
-fn reserved_in_lba(sub: Sub, lba: u32) -> bool
-    ensures { λ r. ⌜ r ≡ reservedInLba sub lba ⌝ }
+fn reserved_in_lba(e: Edition, sub: Sub, lba: u32) -> bool
+    ensures { λ r. ⌜ r ≡ reservedInLba e sub lba ⌝ }
 {
     match sub {
         Sub::Restore => ((lba >> 5) % 2 != 0) | (lba >> 7 != 0),
         Sub::GoTo => lba >> 4 != 0,
-        Sub::SetTimer => ((lba >> 6) % 4 != 0) | (lba >> 24 != 0),
+        Sub::SetTimer => reserved_below(e, lba) | (lba >> 24 != 0),
         Sub::SetState => lba >> 6 != 0,
         Sub::Unknown => false,
     }
@@ -96,10 +107,10 @@ fn selects(sub: Sub, n: Named, place: usize, r: Record) -> bool
 }
 
 // The registers alone: command or feature differs, the subcommand is above 3h, a reserved bit is one.
-fn misread(q: Registers, sub: Sub) -> bool
-    ensures { λ r. ⌜ r ≡ Inner.misread q sub ⌝ }
+fn misread(e: Edition, q: Registers, sub: Sub) -> bool
+    ensures { λ r. ⌜ r ≡ Inner.misread e q sub ⌝ }
 {
-    (q.command != 0xEF) | (q.feature != 0x4A) | is_unknown(sub) | reserved_in_lba(sub, q.lba)
+    (q.command != 0xEF) | (q.feature != 0x4A) | is_unknown(sub) | reserved_in_lba(e, sub, q.lba)
 }
 
 // A selected condition that bars the subcommand: unsupported; not changeable, for all but go to; not saveable, with bit 4.
@@ -178,11 +189,11 @@ fn unfit(sub: Sub, n: Named, save: bool, records: [Record; 5]) -> bool
 }
 
 // Decided before anything changes, so that FFh is all or nothing; the registers alone first.
-pub fn aborts(q: Registers, records: [Record; 5]) -> bool
-    ensures { λ r. ⌜ r ≡ Epc.aborts q records ⌝ }
+pub fn aborts(e: Edition, q: Registers, records: [Record; 5]) -> bool
+    ensures { λ r. ⌜ r ≡ Epc.aborts e q records ⌝ }
 {
     let sub = sub_of(q.lba);
-    if misread(q, sub) {
+    if misread(e, q, sub) {
         true
     } else {
         unfit(sub, registers::named_by(q.count), save(q.lba), records)
@@ -206,11 +217,19 @@ fn restored_from(lba: u32, r: Record) -> Setting
     drive::pick_setting((lba >> 6) % 2 != 0, default, saved)
 }
 
-// Bits 23:8 are the timer; bit 5 enables it unless it is zero.
+// Bits 23:8 are the timer: in minutes with bit 7, which only a published unit takes.
+fn timer_in(lba: u32) -> u32
+    ensures { λ n. ⌜ n ≡ timerIn lba ⌝ }
+{
+    let n = (lba >> 8) % 65536;
+    if (lba >> 7) % 2 != 0 { 600 * n } else { n }
+}
+
+// Bit 5 enables the timer unless it is zero.
 fn timer_set(lba: u32) -> Setting
     ensures { λ s. ⌜ s ≡ timerSet lba ⌝ }
 {
-    let timer = (lba >> 8) % 65536;
+    let timer = timer_in(lba);
     Setting {
         enabled: ((lba >> 5) % 2 != 0) & (timer != 0),
         timer: Tenths(timer),

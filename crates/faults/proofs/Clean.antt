@@ -19,11 +19,12 @@ use Rattle.conditions.specs.declared.Condition.the-variants.{IdleA}
 use Rattle.conditions.proofs.Conditions.{place-below, at-place}
 use Rattle.drive.specs.declared.Setting.{Setting}
 use Rattle.drive.specs.declared.Record.{Record}
-use Rattle.drive.specs.Records.{largest, othersZero, settingWellFormed, recordWellFormed, recordsWellFormed}
+use Rattle.drive.specs.declared.Edition.the-variants.{Draft}
+use Rattle.drive.specs.Records.{largestTimer, othersZero, settingWellFormed, recordWellFormed, recordsWellFormed}
 use Rattle.drive.proofs.WellFormed.{record-fine}
-use Rattle.pages.specs.Logs.{bytesOf, flagAt, namedWords, logPlace, logWords, logBytes}
+use Rattle.pages.specs.Logs.{bytesOf, flagAt, timerWord, namedWords, logPlace, logWords, logBytes}
 use Rattle.pages.specs.Readings.{pageWord, pageSetting, pageRecord, pageRecords}
-use Rattle.pages.proofs.ReadBack.{joined, page-word}
+use Rattle.pages.proofs.ReadBack.{joined, page-word, short-shown}
 use Rattle.pages.proofs.Page.{page-512}
 use Rattle.pages.proofs.Words.{named-word, unnamed-word, word-past}
 use Rattle.faults.specs.declared.FaultKind.{FaultKind}
@@ -35,9 +36,9 @@ use Rattle.faults.proofs.Where.{inside, reserved-word, reserved-bits, s
 use Rattle.faults.proofs.Order.{none-each, none-all}
 
 -- "the page is exactly what our writer makes of the records read and none is saved off default while not saveable"; and the records read are well
--- formed, which our writer asks of them.
+-- formed, which our writer asks of them. What is read are words, so it is the draft edition's largest timer.
 pub record Clean (page : List ℕ) : Type 0 where
-  pub well-formed : recordsWellFormed largest (pageRecords page) ≡ true
+  pub well-formed : recordsWellFormed (largestTimer Draft) (pageRecords page) ≡ true
   pub ours : page ≡ logBytes (pageRecords page)
   pub none-off : (c : Condition) → KeepsDefault (pageRecord page c)
 
@@ -141,18 +142,24 @@ module _ (page : List ℕ) (bytes : AreBytes page) (none : NoFault page) where
     abbrev word : ℕ → ℕ
     word k = pageWord page (logPlace c + k)
 
+    -- A timer that was read is no longer than a word.
+    timer : (w : ℕ) → timerWord (pageWord page w) ≡ pageWord page w
+    timer w = let small = word-small w in short-shown (pageWord page w) (omega arith)
+
     -- The named words say no more than the record.
     named : (k : ℕ) → k < 8 → getD (namedWords (pageRecord page c)) k 0 ≡ word k
     named zero m = let start : logPlace c ≡ logPlace c + 0 = omega arith in ap (pageWord page) start
     named (suc zero) m =
         head-flags (word 1) (word-small _) (or-none _ (sym (reserved-bits c 1 (omega arith) page) ∙ here 1 (omega arith) ReservedBits))
     named (suc (suc zero)) m = setting-flag (word 2) (word-small _) (sym (reserved-bits c 2 (omega arith) page) ∙ here 2 (omega arith) ReservedBits)
-    named (suc (suc (suc zero))) m = let next : logPlace c + 2 + 1 ≡ logPlace c + 3 = omega arith in ap (pageWord page) next
+    named (suc (suc (suc zero))) m = let next : logPlace c + 2 + 1 ≡ logPlace c + 3 = omega arith in timer (logPlace c + 2 + 1) ∙ ap (pageWord page) next
     named (suc (suc (suc (suc zero)))) m = setting-flag (word 4) (word-small _) (sym (reserved-bits c 4 (omega arith) page) ∙ here 4 (omega arith) ReservedBits)
-    named (suc (suc (suc (suc (suc zero))))) m = let next : logPlace c + 4 + 1 ≡ logPlace c + 5 = omega arith in ap (pageWord page) next
+    named (suc (suc (suc (suc (suc zero))))) m =
+        let next : logPlace c + 4 + 1 ≡ logPlace c + 5 = omega arith in timer (logPlace c + 4 + 1) ∙ ap (pageWord page) next
     named (suc (suc (suc (suc (suc (suc zero)))))) m =
         setting-flag (word 6) (word-small _) (sym (reserved-bits c 6 (omega arith) page) ∙ here 6 (omega arith) ReservedBits)
-    named (suc (suc (suc (suc (suc (suc (suc zero))))))) m = let next : logPlace c + 6 + 1 ≡ logPlace c + 7 = omega arith in ap (pageWord page) next
+    named (suc (suc (suc (suc (suc (suc (suc zero))))))) m =
+        let next : logPlace c + 6 + 1 ≡ logPlace c + 7 = omega arith in timer (logPlace c + 6 + 1) ∙ ap (pageWord page) next
     named (suc (suc (suc (suc (suc (suc (suc (suc k)))))))) m = absurd (omega arith)
 
     -- The others are zero.
@@ -162,23 +169,24 @@ module _ (page : List ℕ) (bytes : AreBytes page) (none : NoFault page) where
         eqb-true (word k) 0 (not-false _ test)
 
     -- And what the record says is well formed.
-    setting-fine : (k : ℕ) → (k < 16) × ((eqb k 2 || eqb k 4 || eqb k 6) ≡ true) → settingWellFormed largest (pageSetting page (logPlace c + k)) ≡ true
+    setting-fine : (k : ℕ) → (k < 16) × ((eqb k 2 || eqb k 4 || eqb k 6) ≡ true)
+        → settingWellFormed (largestTimer Draft) (pageSetting page (logPlace c + k)) ≡ true
     setting-fine k (m, is) =
         let s = pageSetting page (logPlace c + k) in
         let small = word-small (logPlace c + k + 1) in
         let test : (s .enabled && eqb (s .timer .0) 0) ≡ false = rw is at (sym (no-timer c k m page) ∙ here k m NoTimer) in
-        and-both _ _ (le-leb (s .timer .0) largest (omega arith)) (timed (s .enabled) (eqb (s .timer .0) 0) test)
+        and-both _ _ (le-leb (s .timer .0) (largestTimer Draft) (omega arith)) (timed (s .enabled) (eqb (s .timer .0) 0) test)
       where
         timed : (a b : Bool) → (a && b) ≡ false → (not a || not b) ≡ true
         timed true b e = ap not e
         timed false b e = refl
 
-    record-fine-read : recordWellFormed largest (pageRecord page c) ≡ true
+    record-fine-read : recordWellFormed (largestTimer Draft) (pageRecord page c) ≡ true
     record-fine-read =
         let r = pageRecord page c in
         let small = word-small (logPlace c) in
         let test = sym (set-unsupported c 1 (omega arith) page) ∙ here 1 (omega arith) SetUnsupported in
-        record-fine largest r .1 (record {
+        record-fine (largestTimer Draft) r .1 (record {
           recovery = omega arith;
           default = setting-fine 2 (omega arith, refl);
           saved = setting-fine 4 (omega arith, refl);
@@ -216,14 +224,14 @@ module _ (page : List ℕ) (bytes : AreBytes page) (none : NoFault page) where
   no-fault-clean : length page ≡ 512 → Clean page
   unfolding recordsWellFormed logBytes
   no-fault-clean size = record {
-    well-formed = every-from (λ at r. recordWellFormed largest r) (pageRecords page) (pageRecord page IdleA) each;
+    well-formed = every-from (λ at r. recordWellFormed (largestTimer Draft) r) (pageRecords page) (pageRecord page IdleA) each;
     ours = page-of-words page (logWords (pageRecords page)) size (page-512 (pageRecords page) refl) bytes log-word;
     none-off = λ c. keeps-default (pageRecord page c) .0 (sym (saved-off c 4 (omega arith) page) ∙ here c 4 (omega arith) SavedOff);
   }
     where
-      each : (i : ℕ) → i < 5 → recordWellFormed largest (getD (pageRecords page) i (pageRecord page IdleA)) ≡ true
+      each : (i : ℕ) → i < 5 → recordWellFormed (largestTimer Draft) (getD (pageRecords page) i (pageRecord page IdleA)) ≡ true
       each i h =
-          ap (recordWellFormed largest) (List·getD-map (pageRecord page) falling i IdleA) ∙ record-fine-read (conditionAt i)
+          ap (recordWellFormed (largestTimer Draft)) (List·getD-map (pageRecord page) falling i IdleA) ∙ record-fine-read (conditionAt i)
 
 -- ---- and back
 
@@ -269,12 +277,12 @@ module _ (page : List ℕ) (clean : Clean page) where
         ours-word (logPlace c + k)
         ∙ ap joined (named-word (pageRecords page) c k (pageRecord page IdleA) 0 refl m ∙ ap (λ (r : Record). getD (namedWords r) k 0) (read-own page c))
 
-    fine : recordWellFormed largest (pageRecord page c) ≡ true
+    fine : recordWellFormed (largestTimer Draft) (pageRecord page c) ≡ true
     unfolding recordsWellFormed
     fine =
         let below = place-below c in
-        ap (recordWellFormed largest) (sym (read-own page c))
-        ∙ every-at (λ at r. recordWellFormed largest r) (pageRecords page) (pageRecord page IdleA) (clean .well-formed) (placeOf c) below
+        ap (recordWellFormed (largestTimer Draft)) (sym (read-own page c))
+        ∙ every-at (λ at r. recordWellFormed (largestTimer Draft) r) (pageRecords page) (pageRecord page IdleA) (clean .well-formed) (placeOf c) below
 
     -- At +k of a condition there is no fault of any kind.
     spot-clear : (k : ℕ) → k < 16 → (kind : FaultKind) → isFault page kind (logPlace c + k) ≡ false
@@ -295,14 +303,14 @@ module _ (page : List ℕ) (clean : Clean page) where
     spot-clear k m SetUnsupported =
         let r = pageRecord page c in
         set-unsupported c k m page
-        ∙ guarded (eqb k 1) _ (λ e. supported (r .supported) (othersZero r) (record-fine largest r .0 fine .others))
+        ∙ guarded (eqb k 1) _ (λ e. supported (r .supported) (othersZero r) (record-fine (largestTimer Draft) r .0 fine .others))
       where
         supported : (a b : Bool) → (a || b) ≡ true → (not a && not b) ≡ false
         supported true b e = refl
         supported false b e = ap not e
     spot-clear k m NoTimer =
         let r = pageRecord page c in
-        let parts = record-fine largest r .0 fine in
+        let parts = record-fine (largestTimer Draft) r .0 fine in
         no-timer c k m page
         ∙ guarded (eqb k 2 || eqb k 4 || eqb k 6) _
         (at-settings (λ j. enabledWithoutTimer (pageSetting page (logPlace c + j)) ≡ false) (timed (r .default) (parts .default))
@@ -312,8 +320,8 @@ module _ (page : List ℕ) (clean : Clean page) where
         apart true b e = not-true b e
         apart false b e = refl
 
-        timed : (t : Setting) → settingWellFormed largest t ≡ true → enabledWithoutTimer t ≡ false
-        timed t h = apart (t .enabled) (eqb (t .timer .0) 0) (and-right (leb (t .timer .0) largest) _ h)
+        timed : (t : Setting) → settingWellFormed (largestTimer Draft) t ≡ true → enabledWithoutTimer t ≡ false
+        timed t h = apart (t .enabled) (eqb (t .timer .0) 0) (and-right (leb (t .timer .0) (largestTimer Draft)) _ h)
     spot-clear k m SavedOff = saved-off c k m page ∙ guarded (eqb k 4) _ (λ e. keeps-default (pageRecord page c) .1 (clean .none-off c))
 
   past-clear : (w : ℕ) → 0x50 ≤ w → w < 256 → (kind : FaultKind) → isFault page kind w ≡ false

@@ -11,8 +11,8 @@ use Rattle.conditions.specs.declared.Condition.{Condition}
 use Rattle.conditions.specs.declared.Condition.the-variants.{IdleA, IdleB, IdleC, StandbyY, StandbyZ}
 use Rattle.drive.specs.declared.Record.{Record}
 use Rattle.conditions.specs.Conditions.{placeOf, conditionAt}
-use Rattle.pages.specs.Logs.{namedWords, logPlace, descriptors, logWords}
-use Rattle.pages.proofs.Page.{descriptors-length}
+use Rattle.pages.specs.Logs.{namedWords, logPlace, loggedWords, logWords}
+use Rattle.pages.proofs.Page.{logged-length}
 
 -- The table of word places: sixteen words a condition, in falling power.
 pub place-words : (c : Condition) → logPlace c ≡ 16 * placeOf c
@@ -26,24 +26,24 @@ place-words StandbyZ = refl
 pub place-start : (place : ℕ) → place < 5 → logPlace (conditionAt place) ≡ 16 * place
 place-start place h = place-words (conditionAt place) ∙ ap (λ (i : ℕ). 16 * i) (place-at place h)
 
-descriptor-at : (rs : List Record) (place k : ℕ) (z : Record) (d : ℕ) → place < length rs → k < 16
-    → getD (descriptors rs) (16 * place + k) d ≡ getD (namedWords (getD rs place z) ++ replicate 8 0) k d
-unfolding descriptors
-descriptor-at [] place k z d h m = absurd (not-suc-le-zero h)
-descriptor-at (r ∷ rs) zero k z d h m = rw zero-add (List·getD-append (namedWords r ++ replicate 8 0) (descriptors rs) d k m)
-descriptor-at (r ∷ rs) (suc place) k z d h m =
+logged-at : (rs : List Record) (place k : ℕ) (z : Record) (d : ℕ) → place < length rs → k < 16
+    → getD (loggedWords rs) (16 * place + k) d ≡ getD (namedWords (getD rs place z) ++ replicate 8 0) k d
+unfolding loggedWords
+logged-at [] place k z d h m = absurd (not-suc-le-zero h)
+logged-at (r ∷ rs) zero k z d h m = rw zero-add (List·getD-append (namedWords r ++ replicate 8 0) (loggedWords rs) d k m)
+logged-at (r ∷ rs) (suc place) k z d h m =
     let next : 16 * suc place + k ≡ 16 + (16 * place + k) = omega arith in
-    rw next (getD-append-add (namedWords r ++ replicate 8 0) (descriptors rs) (16 * place + k) d
-    ∙ descriptor-at rs place k z d (le-of-suc-le-suc h) m)
+    rw next (getD-append-add (namedWords r ++ replicate 8 0) (loggedWords rs) (16 * place + k) d
+    ∙ logged-at rs place k z d (le-of-suc-le-suc h) m)
 
 log-at : (rs : List Record) (c : Condition) (k : ℕ) (z : Record) (d : ℕ) → length rs ≡ 5 → k < 16
     → getD (logWords rs) (logPlace c + k) d ≡ getD (namedWords (getD rs (placeOf c) z) ++ replicate 8 0) k d
 unfolding logWords
 log-at rs c k z d five m =
     let below = place-below c in
-    let inside : 16 * placeOf c + k < length (descriptors rs) = rw descriptors-length (omega arith) in
+    let inside : 16 * placeOf c + k < length (loggedWords rs) = rw logged-length (omega arith) in
     rw (place-words c)
-    (List·getD-append (descriptors rs) _ d (16 * placeOf c + k) inside ∙ descriptor-at rs (placeOf c) k z d (omega arith) m)
+    (List·getD-append (loggedWords rs) _ d (16 * placeOf c + k) inside ∙ logged-at rs (placeOf c) k z d (omega arith) m)
 
 -- The k-th of a condition's named words stands k words after the condition's place.
 pub named-word : (rs : List Record) (c : Condition) (k : ℕ) (z : Record) (d : ℕ) → length rs ≡ 5 → k < 8
@@ -66,6 +66,6 @@ unnamed-word (r ∷ rs) c k d five h m =
 pub word-past : (rs : List Record) (j : ℕ) (d : ℕ) → length rs ≡ 5 → 80 ≤ j → j < 256 → getD (logWords rs) j d ≡ 0
 unfolding logWords
 word-past rs j d five h m =
-    let size = descriptors-length rs in
-    let after : j ≡ length (descriptors rs) + (j - 80) = omega arith in
-    rw after (getD-append-add (descriptors rs) _ (j - 80) d ∙ getD-replicate (256 - length (descriptors rs)) (j - 80) 0 d (omega arith))
+    let size = logged-length rs in
+    let after : j ≡ length (loggedWords rs) + (j - 80) = omega arith in
+    rw after (getD-append-add (loggedWords rs) _ (j - 80) d ∙ getD-replicate (256 - length (loggedWords rs)) (j - 80) 0 d (omega arith))

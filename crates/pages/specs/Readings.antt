@@ -7,7 +7,7 @@ use Rattle.conditions.specs.Conditions.{falling}
 use Rattle.conditions.specs.declared.Condition.{Condition}
 use Rattle.drive.specs.declared.Setting.{Setting}
 use Rattle.drive.specs.declared.Record.{Record}
-use Rattle.pages.specs.Logs.{logPlace}
+use Rattle.pages.specs.Logs.{timerWord, logPlace}
 
 -- "256 words, low byte first": the word at a place.
 abbrev pub pageWord : List ℕ → ℕ → ℕ
@@ -35,3 +35,20 @@ pageRecord page c = recordFrom page (logPlace c)
 
 abbrev pub pageRecords : List ℕ → List Record
 pageRecords page = map (pageRecord page) falling
+
+-- ---- what our page can show of a record
+
+-- Document 02, request (vi): "the old page asked of a new unit shows FFFFh for more than 65,535"; the flag is as it is.
+abbrev pub settingShown : Setting → Setting
+settingShown s = record { enabled = s .enabled; timer = record { 0 = timerWord (s .timer .0) } }
+
+abbrev pub recordShown : Record → Record
+recordShown r = record {
+  supported = r .supported;
+  saveable = r .saveable;
+  changeable = r .changeable;
+  recovery = r .recovery;
+  default = settingShown (r .default);
+  saved = settingShown (r .saved);
+  current = settingShown (r .current);
+}

@@ -3,12 +3,12 @@ ghost use mathlib.Core.Bool.{cond};
 ghost use mathlib.Core.List.{[], _∷_};
 ghost use mathlib.Core.Path.{_≡_};
 ghost use Prim.Native.Nat.{_+_, _/_, _%_, _≤_};
-ghost use Rattle.pages.specs.Logs.{bytesOf, flagAt, namedWords, logBytes};
+ghost use Rattle.pages.specs.Logs.{bytesOf, flagAt, timerWord, namedWords, logBytes};
 use drive::Record;
 use drive::Setting;
 
 // The two bytes of a word, of which the low one comes first.
-fn low(w: u32) -> u8
+pub fn low(w: u32) -> u8
     ensures { λ r. ⌜ r ≡ w % 256 ⌝ }
 {
     (w % 256) as u8
@@ -21,7 +21,7 @@ fn high(w: u32) -> u8
 }
 
 // A flag in the bit that weighs `weight`.
-fn flag_at(weight: u32, flag: bool) -> u32
+pub fn flag_at(weight: u32, flag: bool) -> u32
     ensures { λ r. ⌜ (r ≡ cond flag weight 0) × (r ≤ weight) ⌝ }
 {
     if flag { weight } else { 0 }
@@ -34,12 +34,20 @@ fn flag_word(r: Record) -> u32
     flag_at(0x8000, r.supported) + flag_at(0x4000, r.saveable) + flag_at(0x2000, r.changeable)
 }
 
+// A timer in one word: a published unit may have one that is too long for it.
+fn timer_word(n: u32) -> u32
+    ensures { λ w. ⌜ w ≡ timerWord n ⌝ }
+{
+    if 65535 < n { 0xFFFF } else { n }
+}
+
 // The flag word and the timer of a setting.
 fn setting_bytes(s: Setting) -> [u8; 4]
-    ensures { λ r. ⌜ r ≡ bytesOf (flagAt 15 (s .enabled) ∷ s .timer .0 ∷ []) ⌝ }
+    ensures { λ r. ⌜ r ≡ bytesOf (flagAt 15 (s .enabled) ∷ timerWord (s .timer .0) ∷ []) ⌝ }
 {
     let flag = flag_at(0x8000, s.enabled);
-    [low(flag), high(flag), low(s.timer.0), high(s.timer.0)]
+    let timer = timer_word(s.timer.0);
+    [low(flag), high(flag), low(timer), high(timer)]
 }
 
 // The eight words of a condition that 001 names.

@@ -1,18 +1,21 @@
--- The format page, "Set-up": the lines `c`, `state` and `counts` of a block. Assumes nothing.
+-- The format page, "Set-up": the lines `ed`, `c`, `state` and `counts` of a block, and `m` of a `make` block. Assumes nothing.
 use mathlib.Core.Bool.{Bool, Bool·beq, cond, _&&_}
 use mathlib.Core.List.{List, [], _∷_}
 use Prim.Native.Nat.{ℕ, _+_, _-_}
 use lib.Dec.{eqb, ltb}
 use Rattle.asked.specs.declared.Line.{Line}
-use Rattle.asked.specs.declared.Line.the-variants.{Sets}
-use Rattle.asked.specs.declared.Part.the-variants.{Settings, Stands, HasCounts}
+use Rattle.asked.specs.declared.Line.the-variants.{Sets, Tells}
+use Rattle.asked.specs.declared.Part.the-variants.{IsOf, Settings, Stands, HasCounts}
 use Rattle.asked.specs.declared.State.{State}
 use Rattle.conditions.specs.Conditions.{conditionAt}
 use Rattle.conditions.specs.declared.Cause.{Cause}
 use Rattle.conditions.specs.declared.Cause.the-variants.{Timer, Command}
 use Rattle.conditions.specs.declared.Power.{Power}
 use Rattle.conditions.specs.declared.Power.the-variants.{Active, Low}
+use Rattle.drive.specs.Drives.{withSettings, madeRecord}
+use Rattle.drive.specs.declared.Made.{Made}
 use Rattle.words.specs.Codes.{codes}
+use Rattle.asked.specs.Editions.{editionFrom}
 use Rattle.asked.specs.Offers.{offered}
 use Rattle.words.specs.Fields.{hasWords, nameIn, wideIn, flagIn, conditionLetters}
 use Rattle.parts.specs.declared.ReadEntries.{ReadEntries}
@@ -29,24 +32,31 @@ settingIn k line = record {
   value = record { enabled = flagIn k line .value; timer = record { 0 = wideIn (k + 1) line .value } };
 }
 
--- "flags; recovery in ms".
-abbrev pub recordIn : List ℕ → ReadRecord
-recordIn line = record {
+-- "flags; recovery in ms": what the maker says of a condition, which `c` and `m` have in common.
+abbrev pub makerIn : List ℕ → Made
+makerIn line = record {
+  supported = flagIn 2 line .value;
+  saveable = flagIn 3 line .value;
+  changeable = flagIn 4 line .value;
+  recovery = record { 0 = wideIn 5 line .value };
+  default = settingIn 6 line .value;
+}
+
+-- "manufacture": the record that it makes of that.
+abbrev pub madeIn : List ℕ → ReadRecord
+madeIn line = record {
   good =
       (flagIn 2 line .good && flagIn 3 line .good && flagIn 4 line .good)
       && wideIn 5 line .good
-      && settingIn 6 line .good
-      && settingIn 8 line .good
-      && settingIn 10 line .good;
-  value = record {
-    supported = flagIn 2 line .value;
-    saveable = flagIn 3 line .value;
-    changeable = flagIn 4 line .value;
-    recovery = record { 0 = wideIn 5 line .value };
-    default = settingIn 6 line .value;
-    saved = settingIn 8 line .value;
-    current = settingIn 10 line .value;
-  };
+      && settingIn 6 line .good;
+  value = madeRecord 0 (makerIn line);
+}
+
+-- The same with the saved and the current setting that `c` gives.
+abbrev pub recordIn : List ℕ → ReadRecord
+recordIn line = record {
+  good = madeIn line .good && settingIn 8 line .good && settingIn 10 line .good;
+  value = withSettings (settingIn 8 line .value) (settingIn 10 line .value) (madeIn line .value);
 }
 
 unfoldable pub conditionLine : List ℕ → Line
@@ -120,3 +130,16 @@ tallyIn line = record {
 
 unfoldable pub countsLine : List ℕ → Line
 countsLine line = offered (hasWords 13 line && tallyIn line .good) (Sets (HasCounts (tallyIn line .value)))
+
+-- ---- ed E
+
+-- "`ed 0` or `ed 1` (published)".
+unfoldable pub editionLine : List ℕ → Line
+editionLine line = offered (hasWords 2 line && flagIn 1 line .good) (Sets (IsOf (editionFrom (flagIn 1 line .value))))
+
+-- ---- m X SUP SAV CHG REC DE DT
+
+unfoldable pub makerLine : List ℕ → Line
+makerLine line =
+    offered (hasWords 8 line && ltb (nameIn conditionLetters 1 line) 5 && madeIn line .good)
+    (Tells (conditionAt (nameIn conditionLetters 1 line)) (madeIn line .value))

@@ -1,7 +1,7 @@
-// The lines of a set-up block that are the drive's, read: `c`, `state` and `counts`, each as the part of a record that it sets.
+// The lines of a block that are the drive's, read: `ed`, `c`, `state` and `counts`, each as the part of a record that it sets, and `m` of a `make` block.
 ghost use mathlib.Core.Path.{_≡_};
 ghost use Prim.Native.Nat.{_≤_};
-ghost use Rattle.parts.specs.Parts.{settingIn, recordIn, causeFrom, powerFrom, isPower, conditionLine, stateLine, entriesIn, tallyIn, countsLine};
+ghost use Rattle.parts.specs.Parts.{settingIn, recordIn, causeFrom, powerFrom, isPower, conditionLine, stateLine, entriesIn, tallyIn, countsLine, editionLine, madeIn, makerLine};
 use asked::Entries;
 use asked::Line;
 use asked::Part;
@@ -51,31 +51,43 @@ fn setting_at(line: &[u8], k: usize) -> ReadSetting
     }
 }
 
-fn record_in(line: &[u8]) -> ReadRecord
-    ensures { λ r. ⌜ r ≡ recordIn (now (line .entry)) ⌝ }
+// What `c` and `m` have in common, as manufacture makes it: saved and current are as the default.
+fn made_in(line: &[u8]) -> ReadRecord
+    ensures { λ r. ⌜ r ≡ madeIn (now (line .entry)) ⌝ }
 {
     let supported = words::flag_at(line, 2);
     let saveable = words::flag_at(line, 3);
     let changeable = words::flag_at(line, 4);
     let recovery = words::number_at(line, 5, 0xFFFFFFFF);
-    let first = setting_at(line, 6);
-    let second = setting_at(line, 8);
-    let third = setting_at(line, 10);
+    let setting = setting_at(line, 6);
     let flags = supported.good & saveable.good & changeable.good;
-    let default = first.value;
-    let saved = second.value;
-    let current = third.value;
+    let default = setting.value;
     ReadRecord {
-        good: flags & recovery.good & first.good & second.good & third.good,
+        good: flags & recovery.good & setting.good,
         value: Record {
             supported: supported.value,
             saveable: saveable.value,
             changeable: changeable.value,
             recovery: Millis(recovery.value),
             default,
-            saved,
-            current,
+            saved: default,
+            current: default,
         },
+    }
+}
+
+fn record_in(line: &[u8]) -> ReadRecord
+    ensures { λ r. ⌜ r ≡ recordIn (now (line .entry)) ⌝ }
+{
+    let first = made_in(line);
+    let second = setting_at(line, 8);
+    let third = setting_at(line, 10);
+    let made = first.value;
+    let saved = second.value;
+    let current = third.value;
+    ReadRecord {
+        good: first.good & second.good & third.good,
+        value: drive::with_settings(made, saved, current),
     }
 }
 
@@ -187,4 +199,24 @@ pub fn counts_line(line: &[u8]) -> Line
     let read = tally_in(line);
     let tally = read.value;
     asked::offered((n == 13) & read.good, Line::Sets(Part::HasCounts(tally)))
+}
+
+pub fn edition_line(line: &[u8]) -> Line
+    ensures { λ r. ⌜ r ≡ editionLine (now (line .entry)) ⌝ }
+{
+    let n = words::word_count(line);
+    let published = words::flag_at(line, 1);
+    let part = Part::IsOf(asked::edition_from(published.value));
+    asked::offered((n == 2) & published.good, Line::Sets(part))
+}
+
+pub fn maker_line(line: &[u8]) -> Line
+    ensures { λ r. ⌜ r ≡ makerLine (now (line .entry)) ⌝ }
+{
+    let n = words::word_count(line);
+    let place = words::name_at(line, 1, b"A B C Y Z");
+    let read = made_in(line);
+    let made = read.value;
+    let told = Line::Tells(asked::condition_at(place), made);
+    asked::offered((n == 8) & (place < 5) & read.good, told)
 }

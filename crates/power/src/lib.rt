@@ -7,6 +7,7 @@ pub use conditions::Condition;
 pub use conditions::Power;
 pub use conditions::place_of;
 pub use drive::Drive;
+pub use drive::Edition;
 pub use drive::Made;
 pub use drive::Millis;
 pub use drive::Record;
@@ -54,6 +55,9 @@ pub use unit::Slot;
 pub use readouts::log_page;
 pub use readouts::request_sense;
 pub use senses::Sense;
+
+// The log pages of published ACS-2 (document 02, request (vi)).
+pub use readouts::new_page;
 
 // Transition counts (document 02, request (i)).
 pub use readouts::transition_counts;

@@ -1,5 +1,6 @@
 -- What the calls on a page say: number 1 exactly for a page that is not 512 bytes; no fault exactly for a page that our writer makes of the well-formed
--- records read, none of them saved off default while not saveable; and of a page that our writer wrote, the records that it was written from.
+-- records read, none of them saved off default while not saveable; and of a page that our writer wrote, what it shows of the records that it was
+-- written from.
 use mathlib.Core.Path.{_≡_, refl, sym, ap, subst, _∙_}
 use mathlib.Core.Bool.{Bool, true, false, true≢false}
 use mathlib.Core.List.{List, [], _∷_}
@@ -9,18 +10,19 @@ use native.Mathlib.Omega.{arith}
 use borrow.Author.Tests.{eqb-true, eqb-false, eq-eqb, ne-eqb}
 use lib.Dec.{eqb}
 use lib.ListN.{length, getD, List·getD-eq-default}
-use Rattle.rows.proofs.Places.{and-left}
 use Rattle.conditions.specs.Conditions.{falling, placeOf, conditionAt}
 use Rattle.conditions.specs.declared.Condition.{Condition}
 use Rattle.conditions.specs.declared.Condition.the-variants.{IdleA}
 use Rattle.conditions.proofs.Conditions.{at-place}
-use Rattle.drive.specs.Records.{largest, unsupported, recordsWellFormed}
+use Rattle.drive.specs.declared.Edition.the-variants.{Draft}
+use Rattle.drive.specs.Records.{largestTimer, unsupported, recordsWellFormed}
 use Rattle.drive.specs.declared.Record.{Record}
+use Rattle.drive.proofs.WellFormed.{records-five}
 use Rattle.pages.specs.Logs.{logWords, logBytes}
-use Rattle.pages.specs.Readings.{pageRecord, pageRecords}
+use Rattle.pages.specs.Readings.{pageRecord, pageRecords, recordShown}
 use Rattle.pages.proofs.Bytes.{bytes-small}
 use Rattle.pages.proofs.Page.{page-512}
-use Rattle.pages.proofs.ReadBack.{record-read, page-read}
+use Rattle.pages.proofs.ReadBack.{record-shown, page-shown, shown-fine, page-again, record-read}
 use Rattle.faults.specs.Listing.{faultsOf, listing}
 use Rattle.faults.specs.declared.Fault.{Fault}
 use Rattle.faults.proofs.Clean.{Clean, AreBytes, clean-exactly}
@@ -86,27 +88,31 @@ place-read page c = ap (recordOutcome page) (at-place c)
 pub place-above : (page : List ℕ) (place : ℕ) → 5 ≤ place → recordOutcome page (conditionAt place) ≡ recordOutcome page IdleA
 place-above page place h = ap (recordOutcome page) (List·getD-eq-default falling IdleA h)
 
--- ---- a page that our writer wrote
+-- ---- a page that our writer wrote, of a unit of either edition
 
-module _ (rs : List Record) (h : recordsWellFormed largest rs ≡ true) where
+module _ (top : ℕ) (rs : List Record) (h : recordsWellFormed top rs ≡ true) where
   long : length (logBytes rs) ≡ 512
-  unfolding recordsWellFormed
-  long = page-512 rs (eqb-true (length rs) 5 (and-left _ _ h))
+  long = page-512 rs (records-five top rs h)
 
-  -- Reading it back gives the records.
-  pub wrote-read : (c : Condition) → recordOutcome (logBytes rs) c ≡ Found (getD rs (placeOf c) unsupported)
-  wrote-read c = whole-read (logBytes rs) long .0 c ∙ ap Found (record-read rs h c)
+  -- Reading it back gives what it shows of the records,
+  pub wrote-shown : (c : Condition) → recordOutcome (logBytes rs) c ≡ Found (recordShown (getD rs (placeOf c) unsupported))
+  wrote-shown c = whole-read (logBytes rs) long .0 c ∙ ap Found (record-shown top rs h c)
 
-  -- It has no fault exactly if none is saved off default while not saveable.
-  pub wrote-clean : (faultsOutcome (logBytes rs) .faults .total ≡ 0) ↔ ((c : Condition) → KeepsDefault (getD rs (placeOf c) unsupported))
+  -- and it has no fault exactly if of these none is saved off default while not saveable.
+  pub wrote-clean : (faultsOutcome (logBytes rs) .faults .total ≡ 0) ↔ ((c : Condition) → KeepsDefault (recordShown (getD rs (placeOf c) unsupported)))
   unfolding logBytes
   wrote-clean =
       let exactly = total-zero (logBytes rs) (bytes-small (logWords rs)) in
       let done = ap (λ (r : Checked). r .answer) (whole-read (logBytes rs) long .1) in (
-        λ none c. subst KeepsDefault (record-read rs h c) (exactly .0 (done, none) .none-off c),
+        λ none c. subst KeepsDefault (record-shown top rs h c) (exactly .0 (done, none) .none-off c),
         λ kept. exactly .1 (record {
-          well-formed = ap (recordsWellFormed largest) (page-read rs h) ∙ h;
-          ours = ap logBytes (sym (page-read rs h));
-          none-off = λ c. subst KeepsDefault (sym (record-read rs h c)) (kept c);
+          well-formed = ap (recordsWellFormed (largestTimer Draft)) (page-shown top rs h) ∙ shown-fine top rs h;
+          ours = sym (ap logBytes (page-shown top rs h) ∙ page-again rs);
+          none-off = λ c. subst KeepsDefault (sym (record-shown top rs h c)) (kept c);
         }) .1,
       )
+
+-- Of a draft unit these are the records themselves.
+pub wrote-read : (rs : List Record) → recordsWellFormed (largestTimer Draft) rs ≡ true → (c : Condition)
+    → recordOutcome (logBytes rs) c ≡ Found (getD rs (placeOf c) unsupported)
+wrote-read rs h c = whole-read (logBytes rs) (long (largestTimer Draft) rs h) .0 c ∙ ap Found (record-read rs h c)

@@ -1,4 +1,4 @@
--- The whole outcome of REQUEST SENSE and of the log pages: document 01, "Sense and log bytes", and document 02, request (i).
+-- The whole outcome of REQUEST SENSE and of the log pages: document 01, "Sense and log bytes", and document 02, requests (i) and (vi).
 use mathlib.Core.Bool.{true, false}
 use mathlib.Core.List.{List}
 use Prim.Native.Nat.{ℕ}
@@ -6,12 +6,13 @@ use lib.ListN.{length}
 use Rattle.conditions.specs.declared.Power.{Power}
 use Rattle.senses.specs.Senses.{senseBytes, powerSense}
 use Rattle.pages.specs.Logs.{logBytes}
+use Rattle.published.specs.Descriptors.{descriptorPage, lacksPage}
 use Rattle.transitions.specs.Counts.{tableOf}
 use Rattle.transitions.specs.Page.{transitionBytes}
 use Rattle.unit.specs.Units.{isOut, heldOf, wellFormed, withHeld, rested}
 use Rattle.requests.specs.Requests.{failureSense}
 use Rattle.refusals.specs.Refusals.{Row, lowest}
-use Rattle.refusals.specs.Verdicts.{rowsOfSense, rowsOfPage}
+use Rattle.refusals.specs.Verdicts.{rowsOfSense, rowsOfPage, rowsOfNewPage}
 use Rattle.refusals.specs.declared.Verdict.{Verdict}
 use Rattle.refusals.specs.declared.Verdict.the-variants.{Clear, Given}
 use Rattle.unit.specs.declared.Held.{Held}
@@ -57,6 +58,15 @@ logRows u buffer = rowsOfPage 512 (length buffer) (wellFormed u)
 -- "Reading the log page changes no record."
 unfoldable pub logOutcome : Unit → List ℕ → Filled
 logOutcome u buffer = filled u u (logBytes (u .drive .records)) buffer (lowest (logRows u buffer))
+
+-- ---- the log pages of published ACS-2
+
+abbrev pub newPageRows : Unit → ℕ → List ℕ → List Row
+newPageRows u number buffer = rowsOfNewPage (length buffer) (wellFormed u) (lacksPage (u .edition) number)
+
+-- "Reading the log page changes no record."
+unfoldable pub newPageOutcome : Unit → ℕ → List ℕ → Filled
+newPageOutcome u number buffer = filled u u (descriptorPage number (u .drive .records)) buffer (lowest (newPageRows u number buffer))
 
 -- ---- the Power Condition Transitions log page, and the table it is made of
 

@@ -1,6 +1,6 @@
 // REQUEST SENSE and the log pages, the calls that write into a lent buffer; and the transition counts by value.
 ghost use mathlib.Core.Path.{_≡_};
-ghost use Rattle.readouts.specs.Readouts.{toldBytes, senseEffect, senseOutcome, logOutcome, countsHanded, transitionsOutcome};
+ghost use Rattle.readouts.specs.Readouts.{toldBytes, senseEffect, senseOutcome, logOutcome, countsHanded, transitionsOutcome, newPageOutcome};
 ghost use Rattle.unit.specs.Units.{heldOf};
 use conditions::Power;
 use outcomes::Called;
@@ -61,6 +61,25 @@ pub fn log_page(u: Unit, buffer: &mut [u8]) -> Answer
         Verdict::Clear => {
             let records = u.drive.records;
             let page = pages::log_page(records);
+            rows::copy_in(&page, buffer, 0);
+            Answer::Done
+        }
+        Verdict::Given(r) => Answer::Refused(r),
+    }
+}
+
+// A log page of published ACS-2, 0 or 1, into the lent buffer. The record stays the caller's, unchanged.
+pub fn new_page(u: Unit, number: u32, buffer: &mut [u8]) -> Answer
+    ensures { λ a. ⌜ (a ≡ newPageOutcome u number (now (buffer .entry)) .called .answer) × (now (buffer .exit) ≡ newPageOutcome u number (now (buffer .entry)) .buffer) ⌝ }
+{
+    let ok = unit::unit_ok(u);
+    let edition = u.edition;
+    let lacking = published::lacks_page(edition, number);
+    let v = refusals::new_page_verdict(buffer.len(), ok, lacking);
+    match v {
+        Verdict::Clear => {
+            let records = u.drive.records;
+            let page = published::descriptor_page(number, records);
             rows::copy_in(&page, buffer, 0);
             Answer::Done
         }

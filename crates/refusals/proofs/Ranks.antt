@@ -10,7 +10,7 @@ use lib.ListN.{length, getD}
 use borrow.Author.Tests.{eq-eqb, eqb-true}
 use Rattle.refusals.specs.Refusals.{Row, _gives_, numberOf, order, isSame, placeAmong, rankOf, appliesIn, lowest, rowsBy, IsLowest}
 use Rattle.refusals.specs.declared.Refusal.{Refusal}
-use Rattle.refusals.specs.declared.Refusal.the-variants.{BadLength, BadHost, BadRecord, CommandOut, HasNone, OwnWaiting, BadOpcode, BadField, IsStopped, Aborted}
+use Rattle.refusals.specs.declared.Refusal.the-variants.{BadLength, BadHost, BadRecord, CommandOut, NoSuchPage, HasNone, OwnWaiting, BadOpcode, BadField, IsStopped, Aborted}
 use Rattle.refusals.specs.declared.Verdict.the-variants.{Clear, Given}
 use Rattle.refusals.proofs.Lowest.{row-passes, row-gives, not-applies, clear-not-given}
 
@@ -22,6 +22,7 @@ stands BadLength = (refl, omega arith)
 stands BadHost = (refl, omega arith)
 stands BadRecord = (refl, omega arith)
 stands CommandOut = (refl, omega arith)
+stands NoSuchPage = (refl, omega arith)
 stands HasNone = (refl, omega arith)
 stands OwnWaiting = (refl, omega arith)
 stands BadOpcode = (refl, omega arith)
@@ -29,8 +30,8 @@ stands BadField = (refl, omega arith)
 stands IsStopped = (refl, omega arith)
 stands Aborted = (refl, omega arith)
 
--- Document 01's own order is that of its numbers.
-pub numbers : map numberOf order ≡ 1 ∷ 2 ∷ 3 ∷ 4 ∷ 5 ∷ 6 ∷ 7 ∷ 8 ∷ 9 ∷ 10 ∷ []
+-- Document 01's numbers in their own order, and of document 02 "11, between 4 and 5".
+pub numbers : map numberOf order ≡ 1 ∷ 2 ∷ 3 ∷ 4 ∷ 11 ∷ 5 ∷ 6 ∷ 7 ∷ 8 ∷ 9 ∷ 10 ∷ []
 numbers = refl
 
 -- Two refusals with one number are one.
@@ -58,6 +59,7 @@ module _ (f : Refusal → Bool) where
   applies-by BadHost = refl
   applies-by BadRecord = refl
   applies-by CommandOut = refl
+  applies-by NoSuchPage = refl
   applies-by HasNone = refl
   applies-by OwnWaiting = refl
   applies-by BadOpcode = refl

@@ -1,11 +1,12 @@
--- Document 01, "Numbers given back": the numbers, their sense, the order in which they are looked at, and the first of it that applies.
+-- Document 01, "Numbers given back": the numbers, their sense, the order in which they are looked at, and the first of it that applies; document 02's
+-- numbers too.
 use mathlib.Core.Bool.{Bool, true, false, cond}
 use mathlib.Core.List.{List, [], _∷_, map}
 use mathlib.Core.Path.{_≡_}
 use Prim.Native.Nat.{ℕ, suc, _<_}
 use lib.Dec.{eqb}
 use Rattle.refusals.specs.declared.Refusal.{Refusal}
-use Rattle.refusals.specs.declared.Refusal.the-variants.{BadLength, BadHost, BadRecord, CommandOut, HasNone, OwnWaiting, BadOpcode, BadField, IsStopped, Aborted}
+use Rattle.refusals.specs.declared.Refusal.the-variants.{BadLength, BadHost, BadRecord, CommandOut, NoSuchPage, HasNone, OwnWaiting, BadOpcode, BadField, IsStopped, Aborted}
 use Rattle.refusals.specs.declared.SenseDue.{SenseDue}
 use Rattle.refusals.specs.declared.SenseDue.the-variants.{NoSense, WithSense}
 use Rattle.refusals.specs.declared.Answer.{Answer}
@@ -19,6 +20,7 @@ numberOf BadLength = 1
 numberOf BadHost = 2
 numberOf BadRecord = 3
 numberOf CommandOut = 4
+numberOf NoSuchPage = 11
 numberOf HasNone = 5
 numberOf OwnWaiting = 6
 numberOf BadOpcode = 7
@@ -26,12 +28,13 @@ numberOf BadField = 8
 numberOf IsStopped = 9
 numberOf Aborted = 10
 
--- "Sense": "none", or sense key, additional sense code and qualifier.
+-- "Sense": "none", or sense key, additional sense code and qualifier. Of document 02's: "11 to 16, 18 and 19 carry no sense".
 abbrev pub senseOf : Refusal → SenseDue
 senseOf BadLength = NoSense
 senseOf BadHost = NoSense
 senseOf BadRecord = NoSense
 senseOf CommandOut = NoSense
+senseOf NoSuchPage = NoSense
 senseOf HasNone = NoSense
 senseOf OwnWaiting = WithSense (record { key = 0x02; asc = 0x04; ascq = 0x07 })
 senseOf BadOpcode = WithSense (record { key = 0x05; asc = 0x20; ascq = 0x00 })
@@ -41,11 +44,11 @@ senseOf Aborted = NoSense
 
 -- ---- the order
 
--- "The lowest number that applies is given": the first in this order. It is a list of its own, since a later number may stand between two others; that
--- it is the order of document 01's numbers is Ranks · numbers.
+-- "The lowest number that applies is given": the first in this order. It is a list of its own, since a later number may stand between two others, as
+-- request (vi)'s does: "11, between 4 and 5". That it is the papers' order is Ranks · numbers.
 abbrev pub order : List Refusal
 order =
-    BadLength ∷ BadHost ∷ BadRecord ∷ CommandOut ∷ HasNone
+    BadLength ∷ BadHost ∷ BadRecord ∷ CommandOut ∷ NoSuchPage ∷ HasNone
     ∷ OwnWaiting ∷ BadOpcode ∷ BadField ∷ IsStopped ∷ Aborted ∷ []
 
 abbrev pub isSame : Refusal → Refusal → Bool

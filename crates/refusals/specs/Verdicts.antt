@@ -5,12 +5,12 @@ use mathlib.Core.List.{List, [], _∷_, _++_}
 use Prim.Native.Nat.{ℕ}
 use lib.Dec.{eqb, ltb}
 use Rattle.refusals.specs.Refusals.{Row, _gives_}
-use Rattle.refusals.specs.declared.Refusal.the-variants.{BadLength, BadHost, BadRecord, CommandOut, HasNone, OwnWaiting, BadOpcode, BadField, IsStopped, Aborted}
+use Rattle.refusals.specs.declared.Refusal.the-variants.{BadLength, BadHost, BadRecord, CommandOut, NoSuchPage, HasNone, OwnWaiting, BadOpcode, BadField, IsStopped, Aborted}
 
 -- ---- rows that calls share
 
--- 1: "CDB not 6 bytes, sense buffer not 18, log buffer not 512"; document 02, request (i): "a page buffer not 52 bytes", and request (v): "a page not
--- 512 bytes".
+-- 1: "CDB not 6 bytes, sense buffer not 18, log buffer not 512", a new page's buffer too; document 02, request (i): "a page buffer not 52 bytes", and
+-- request (v): "a page not 512 bytes".
 abbrev pub badLengthRow : ℕ → ℕ → Row
 badLengthRow size due = not (eqb size due) gives BadLength
 
@@ -22,8 +22,8 @@ badHostRow host = ltb 3 host gives BadHost
 abbrev pub badRecordRow : Bool → Row
 badRecordRow ok = not ok gives BadRecord
 
--- 4: "a command is out (host calls other than the answer; EPC; not ticks, resets or the log page)". Page 1Ah is a log page too: request (i) names 1
--- and 3 alone.
+-- 4: "a command is out (host calls other than the answer; EPC; not ticks, resets or the log page)". Page 1Ah and the new pages are log pages too:
+-- request (i) names 1 and 3 alone.
 abbrev pub commandOutRow : Bool → Row
 commandOutRow out = out gives CommandOut
 
@@ -49,9 +49,13 @@ rowsOfMedium host ok out stopped = rowsOfHost host ok out ++ (stopped gives IsSt
 abbrev pub rowsOfSense : ℕ → ℕ → Bool → Bool → List Row
 rowsOfSense size host ok out = badLengthRow size 18 ∷ rowsOfHost host ok out
 
--- A log page, which is so many bytes: 1, 3.
+-- The log page and page 1Ah, which are so many bytes: 1, 3.
 abbrev pub rowsOfPage : ℕ → ℕ → Bool → List Row
 rowsOfPage due size ok = badLengthRow size due ∷ badRecordRow ok ∷ []
+
+-- A new page: 1, 3, and 11: "for a new page asked of a draft unit or a page above 1" (document 02, request (vi)). It is a log page, so not 4.
+abbrev pub rowsOfNewPage : ℕ → Bool → Bool → List Row
+rowsOfNewPage size ok lacking = badLengthRow size 512 ∷ badRecordRow ok ∷ (lacking gives NoSuchPage) ∷ []
 
 -- A page that another maker wrote: 1.
 abbrev pub rowsOfReader : ℕ → List Row

@@ -1,18 +1,19 @@
-// Why a call is refused: the numbers of document 01, the sense that goes with each, and the verdict over the rows that a call is held to.
+// Why a call is refused: the numbers of documents 01 and 02, the sense that goes with each, and the verdict over the rows that a call is held to.
 // No unit is needed.
 ghost use mathlib.Core.List.{[], _∷_};
 ghost use mathlib.Core.Path.{_≡_};
 ghost use Rattle.refusals.specs.Refusals.{numberOf, senseOf, _gives_, lowest, orElse, isGiven, answerOf};
-ghost use Rattle.refusals.specs.Verdicts.{rowsOfHost, rowsOfRecord, rowsOfEpc, rowsOfMedium, rowsOfSense, rowsOfPage, rowsOfReader, rowsOfCdb, rowsOfStartStop, rowsOfNext, rowsOfAnswer};
+ghost use Rattle.refusals.specs.Verdicts.{rowsOfHost, rowsOfRecord, rowsOfEpc, rowsOfMedium, rowsOfSense, rowsOfPage, rowsOfNewPage, rowsOfReader, rowsOfCdb, rowsOfStartStop, rowsOfNext, rowsOfAnswer};
 ghost use Rattle.refusals.specs.declared.SenseDue.the-variants.{WithSense};
 use senses::Sense;
 
-// Why a call was refused: document 01's numbers 1 to 10.
+// Why a call was refused: document 01's numbers 1 to 10, and document 02's 11, in the order in which they are looked at.
 pub enum Refusal {
     BadLength,
     BadHost,
     BadRecord,
     CommandOut,
+    NoSuchPage,
     HasNone,
     OwnWaiting,
     BadOpcode,
@@ -47,6 +48,7 @@ pub fn number(r: Refusal) -> u32
         Refusal::BadHost => 2,
         Refusal::BadRecord => 3,
         Refusal::CommandOut => 4,
+        Refusal::NoSuchPage => 11,
         Refusal::HasNone => 5,
         Refusal::OwnWaiting => 6,
         Refusal::BadOpcode => 7,
@@ -70,6 +72,7 @@ pub fn sense_of(r: Refusal) -> SenseDue
         Refusal::BadHost => SenseDue::NoSense,
         Refusal::BadRecord => SenseDue::NoSense,
         Refusal::CommandOut => SenseDue::NoSense,
+        Refusal::NoSuchPage => SenseDue::NoSense,
         Refusal::HasNone => SenseDue::NoSense,
         Refusal::OwnWaiting => with_sense(0x02, 0x04, 0x07),
         Refusal::BadOpcode => with_sense(0x05, 0x20, 0x00),
@@ -182,13 +185,27 @@ pub fn sense_verdict(size: usize, host: u32, ok: bool, out: bool) -> Verdict
     )
 }
 
-// A log page of so many bytes: numbers 1 and 3.
+// The log page and page 1Ah, which are so many bytes: numbers 1 and 3.
 pub fn page_verdict(due: usize, size: usize, ok: bool) -> Verdict
     ensures { λ v. ⌜ v ≡ lowest (rowsOfPage due size ok) ⌝ }
 {
     or_else(
         given_if(size != due, Refusal::BadLength),
         record_verdict(ok),
+    )
+}
+
+// A new page, which is 512 bytes: numbers 1, 3 and 11.
+pub fn new_page_verdict(size: usize, ok: bool, lacking: bool) -> Verdict
+    ensures { λ v. ⌜ v ≡ lowest (rowsOfNewPage size ok lacking) ⌝ }
+{
+    first_of(
+        size != 512,
+        Refusal::BadLength,
+        !ok,
+        Refusal::BadRecord,
+        lacking,
+        Refusal::NoSuchPage,
     )
 }
 

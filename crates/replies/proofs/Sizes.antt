@@ -1,5 +1,5 @@
--- No answer has more than 4,096 bytes. A line is cut at 128 of them: `show` has 18 lines and the table 23. The bytes that `sense`, `log` and
--- `trans` print are at most 1,024, with two digits each, between two texts that are cut too. `faults` prints at most 64 entries, of at most 18.
+-- No answer has more than 4,096 bytes. A line is cut at 128 of them: `show` has 19 lines and the table 24. The bytes that `sense`, `log`, `trans`
+-- and `page` print are at most 1,024, with two digits each, between two texts that are cut too. `faults` prints at most 64 entries, of at most 18.
 use mathlib.Core.Path.{_≡_, refl}
 use mathlib.Core.Bool.{Bool, true, false, cond, not}
 use mathlib.Core.List.{List, [], _∷_, _++_, map}
@@ -9,17 +9,18 @@ use borrow.Author.Tests.{ltb-true}
 use lib.Dec.{eqb, ltb}
 use lib.ListN.{length, length-append, length-replicate, length-take}
 use Rattle.rows.proofs.Places.{and-left}
-use Rattle.drive.specs.Records.{largest}
 use Rattle.drive.proofs.WellFormed.{drive-five}
 use Rattle.pages.specs.Logs.{logBytes}
 use Rattle.senses.specs.Senses.{senseBytes}
 use Rattle.pages.proofs.Page.{page-512}
+use Rattle.published.specs.Descriptors.{descriptorPage}
+use Rattle.published.proofs.Places.{new-page-512}
 use Rattle.transitions.specs.Page.{transitionBytes}
 use Rattle.transitions.proofs.Page.{page-52}
-use Rattle.readouts.specs.Readouts.{Filled, filled, toldBytes, senseEffect, senseRows, senseOutcome, logRows, logOutcome, countsHanded, transitionsRows, transitionsOutcome}
+use Rattle.readouts.specs.Readouts.{Filled, filled, toldBytes, senseEffect, senseRows, senseOutcome, logRows, logOutcome, newPageRows, newPageOutcome, countsHanded, transitionsRows, transitionsOutcome}
 use Rattle.refusals.specs.Refusals.{_gives_, lowest}
 use Rattle.refusals.specs.declared.Refusal.the-variants.{BadLength, BadRecord}
-use Rattle.unit.specs.Units.{heldOf, wellFormed}
+use Rattle.unit.specs.Units.{heldOf, largestOf, wellFormed}
 use Rattle.unit.specs.declared.Held.{Held}
 use Rattle.unit.specs.declared.Held.the-variants.{Nothing, Holds}
 use Rattle.refusals.specs.declared.Answer.{Answer}
@@ -38,12 +39,14 @@ use Rattle.digits.proofs.Digits.{pairs-length}
 use Rattle.digits.proofs.Lengths.{Small, cut-small, line-more, lines-small}
 use Rattle.asked.specs.Lengths.{bufferLength}
 use Rattle.asked.specs.declared.CallLine.{CallLine}
-use Rattle.asked.specs.declared.CallLine.the-variants.{Plain, StartStop, Next, Answer as AnswerCall, Sense, Log, Transitions, PageFaults, PageRecord}
+use Rattle.asked.specs.declared.CallLine.the-variants.{Plain, StartStop, Next, Answer as AnswerCall, Sense, Log, Transitions, NewPage, PageFaults, PageRecord}
 use Rattle.asked.specs.declared.Line.{Line}
-use Rattle.asked.specs.declared.Line.the-variants.{Blank, Wrong, Asks, Sets, Opens, Closes, Shows, Tables}
+use Rattle.asked.specs.declared.Line.the-variants.{Blank, Wrong, Asks, Sets, Tells, Opens, Makes, Closes, Shows, Tables}
 use Rattle.asked.specs.declared.Part.{Part}
 use Rattle.asked.specs.Records.{partsOf}
-use Rattle.blocks.specs.Sessions.{drafted, closed}
+use Rattle.blocks.specs.Sessions.{isOpen, afterLine, closedWith}
+use Rattle.blocks.specs.declared.Block.{Block}
+use Rattle.blocks.specs.declared.Block.the-variants.{NoBlock, UnitBlock, MakeBlock}
 use Rattle.spelling.specs.Spelling.{partText, partLines, shown}
 use Rattle.blocks.specs.declared.Session.{Session}
 use Rattle.commands.specs.Commands.{cdbIn}
@@ -58,8 +61,8 @@ use Rattle.reader.specs.PageCalls.{faultsOutcome, recordOutcome}
 use Rattle.pairs.specs.Pairs.{pageOf}
 use Rattle.findings.specs.Findings.{entryText, entriesOf, listedPieces, checkedPieces, faultsPieces, foundText, recordPieces}
 use Rattle.findings.proofs.Entries.{total-within, entry-within}
-use Rattle.replies.specs.Lines.{isEnd, silent, okOrError, saysOk, inBlock, outside, response}
-use Rattle.answers.specs.Answers.{calledResponse, plainOutcome, unfilled, filledPieces, filledResponse, callResponse}
+use Rattle.replies.specs.Lines.{isEnd, silent, okOrError, saysOk, makeReplied, endedBlock, inBlock, outside, response}
+use Rattle.answers.specs.Answers.{calledResponse, plainOutcome, unfilled, filledPieces, filledResponse, callResponse, plannedOutcome, madeResponse}
 
 -- ---- lines
 
@@ -78,7 +81,7 @@ line-fits t = omega (arith, line-more t [] (omega arith))
 shown-fits : (u : Unit) → Fits (shown u)
 unfolding shown
 shown-fits u =
-    let eighteen : length (shown u) ≡ 18 = refl in
+    let lines : length (shown u) ≡ 19 = refl in
     let last = lineText (codes "end") ∷ [] in
     let parts = parts-small (partsOf u) last (line-more (codes "end") [] (omega arith)) in
     omega (arith, line-more (codes "unit") (partLines (partsOf u) ++ last) parts)
@@ -86,10 +89,10 @@ shown-fits u =
 table-fits : (u : Unit) → Fits (tableLines u)
 unfolding tableLines texts
 table-fits u =
-    let lines : length (map lineText (texts u)) ≡ 23 = refl in
+    let lines : length (map lineText (texts u)) ≡ 24 = refl in
     omega (arith, lines-small (texts u))
 
--- ---- the bytes that `sense`, `log` and `trans` print
+-- ---- the bytes that `sense`, `log`, `trans` and `page` print
 
 lent-within : (len : ℕ) → length (unfilled len) ≤ 0x400
 lent-within len = rw (length-replicate {A = ℕ} (bufferLength len) 0xA5) (on (ltb len 0x400) refl)
@@ -117,7 +120,7 @@ sense-within u host buffer h =
 -- A clear verdict says of each row that it does not apply: the record is well formed, so it has five conditions.
 five-records : (u : Unit) → wellFormed u ≡ true → length (u .drive .records) ≡ 5
 unfolding wellFormed
-five-records u e = drive-five largest (u .drive) (and-left _ _ (and-left _ _ e))
+five-records u e = drive-five (largestOf u) (u .drive) (and-left _ _ (and-left _ _ e))
 
 rows-clear : (ok long : Bool) → lowest ((long gives BadLength) ∷ (not ok gives BadRecord) ∷ []) ≡ Clear → ok ≡ true
 unfolding lowest
@@ -142,6 +145,12 @@ unfolding transitionsOutcome
 transitions-within u buffer h =
     filled-within u u (transitionBytes (countsHanded u)) buffer (lowest (transitionsRows u buffer))
     (λ e. omega (arith, page-52 (countsHanded u))) h
+
+new-page-within : (u : Unit) (number : ℕ) (buffer : List ℕ) → length buffer ≤ 0x400 → length (newPageOutcome u number buffer .buffer) ≤ 0x400
+unfolding newPageOutcome
+new-page-within u number buffer h =
+    filled-within u u (descriptorPage number (u .drive .records)) buffer (lowest (newPageRows u number buffer))
+    (λ e. omega (arith, new-page-512 (u .drive .records) number)) h
 
 bytes-within : (bs : List ℕ) → length bs ≤ 0x400 → length (bytesText bs) ≤ 2048
 bytes-within [] h = omega arith
@@ -195,6 +204,8 @@ call-fits u (AnswerCall host reply) text = line-fits (progressText (answerOutcom
 call-fits u (Sense host len) text = reply-fits (senseOutcome u host (unfilled len)) (sense-within u host (unfilled len) (lent-within len))
 call-fits u (Log len) text = reply-fits (logOutcome u (unfilled len)) (log-within u (unfilled len) (lent-within len))
 call-fits u (Transitions len) text = reply-fits (transitionsOutcome u (unfilled len)) (transitions-within u (unfilled len) (lent-within len))
+call-fits u (NewPage number len) text =
+    reply-fits (newPageOutcome u number (unfilled len)) (new-page-within u number (unfilled len) (lent-within len))
 call-fits u (PageFaults len) text = faults-fits len text
 call-fits u (PageRecord c len) text = record-fits c len text
 
@@ -206,21 +217,33 @@ outside-fits s Blank text = omega arith
 outside-fits s Wrong text = ok-fits false
 outside-fits s (Asks c) text = call-fits (s .unit) c text
 outside-fits s (Sets p) text = ok-fits false
+outside-fits s (Tells c r) text = ok-fits false
 outside-fits s Opens text = omega arith
+outside-fits s (Makes e) text = omega arith
 outside-fits s Closes text = ok-fits false
 outside-fits s Shows text = shown-fits (s .unit)
 outside-fits s Tables text = table-fits (s .unit)
 
+make-fits : (s : Session) (good : Bool)
+    → Fits (cond good (makeReplied s (madeResponse (s .unit) (s .planned))) (saysOk false (closedWith (s .unit) s)) .pieces)
+make-fits s true = line-fits (calledText (plannedOutcome (s .planned) .answer))
+make-fits s false = ok-fits false
+
+end-fits : (s : Session) (b : Block) → Fits (endedBlock b s .pieces)
+end-fits s NoBlock = ok-fits false
+end-fits s UnitBlock = ok-fits (s .good)
+end-fits s MakeBlock = make-fits s (s .good)
+
 block-fits : (s : Session) (line : Line) → Fits (inBlock s line .pieces)
 block-fits s line = on (isEnd line)
   where
-    on : (t : Bool) → Fits (cond t (saysOk (s .good) (closed s)) (silent (drafted line s)) .pieces)
-    on true = ok-fits (s .good)
+    on : (t : Bool) → Fits (cond t (endedBlock (s .block) s) (silent (afterLine line s)) .pieces)
+    on true = end-fits s (s .block)
     on false = omega arith
 
 pub answer-fits : (s : Session) (text : List ℕ) → Fits (response s text .pieces)
 unfolding response
-answer-fits s text = on (s .is_open)
+answer-fits s text = on (isOpen (s .block))
   where
     on : (t : Bool) → Fits (cond t (inBlock s (lineOfText text)) (outside s (lineOfText text) text) .pieces)
     on true = block-fits s (lineOfText text)

@@ -5,13 +5,15 @@ use Prim.Native.Nat.{ℕ}
 use Rattle.words.specs.Codes.{codes}
 use Rattle.digits.specs.Sheets.{lineText}
 use Rattle.asked.specs.declared.Line.{Line}
-use Rattle.asked.specs.declared.Line.the-variants.{Blank, Wrong, Asks, Sets, Opens, Closes, Shows, Tables}
+use Rattle.asked.specs.declared.Line.the-variants.{Blank, Wrong, Asks, Sets, Tells, Opens, Makes, Closes, Shows, Tables}
 use Rattle.script.specs.Lines.{lineOfText}
-use Rattle.blocks.specs.Sessions.{withUnit, opened, drafted, closed}
+use Rattle.blocks.specs.Sessions.{withUnit, isOpen, opened, openedMake, afterLine, closedWith, closed}
 use Rattle.spelling.specs.Spelling.{shown}
+use Rattle.blocks.specs.declared.Block.{Block}
+use Rattle.blocks.specs.declared.Block.the-variants.{NoBlock, UnitBlock, MakeBlock}
 use Rattle.blocks.specs.declared.Session.{Session}
 use Rattle.table.specs.Table.{tableLines}
-use Rattle.answers.specs.Answers.{CallResponse, callResponse}
+use Rattle.answers.specs.Answers.{CallResponse, callResponse, madeResponse}
 
 -- The session after a line, and what is printed, piece by piece.
 pub record Response : Type 0 where
@@ -27,19 +29,36 @@ okOrError good = lineText (cond good (codes "ok") (codes "error")) ∷ []
 abbrev pub saysOk : Bool → Session → Response
 saysOk good s = record { session = s; pieces = okOrError good }
 
--- "prints one `ok`, at `end`"; a bad line in the block: "`error`, printed once, at `end`".
 abbrev pub isEnd : Line → Bool
 isEnd Closes = true
 isEnd Blank = false
 isEnd Wrong = false
 isEnd (Asks c) = false
 isEnd (Sets p) = false
+isEnd (Tells c r) = false
 isEnd Opens = false
+isEnd (Makes e) = false
 isEnd Shows = false
 isEnd Tables = false
 
+-- "prints one `ok`, at `end`"; a bad line in the block: "`error`, printed once, at `end`".
+abbrev pub endedUnit : Session → Response
+endedUnit s = saysOk (s .good) (closed s)
+
+-- "manufacture; prints `ok`, or `refused 3 -` and the record stays as it was; bad lines as in a `unit` block".
+abbrev pub makeReplied : Session → CallResponse → Response
+makeReplied s r = record { session = closedWith (r .unit) s; pieces = r .pieces }
+
+abbrev pub endedMake : Session → Response
+endedMake s = cond (s .good) (makeReplied s (madeResponse (s .unit) (s .planned))) (saysOk false (closedWith (s .unit) s))
+
+abbrev pub endedBlock : Block → Session → Response
+endedBlock NoBlock s = saysOk false s
+endedBlock UnitBlock s = endedUnit s
+endedBlock MakeBlock s = endedMake s
+
 abbrev pub inBlock : Session → Line → Response
-inBlock s line = cond (isEnd line) (saysOk (s .good) (closed s)) (silent (drafted line s))
+inBlock s line = cond (isEnd line) (endedBlock (s .block) s) (silent (afterLine line s))
 
 abbrev pub replied : Session → CallResponse → Response
 replied s r = record { session = withUnit (r .unit) s; pieces = r .pieces }
@@ -50,11 +69,13 @@ outside s Blank text = silent s
 outside s Wrong text = saysOk false s
 outside s (Asks c) text = replied s (callResponse (s .unit) c text)
 outside s (Sets p) text = saysOk false s
+outside s (Tells c r) text = saysOk false s
 outside s Opens text = silent (opened s)
+outside s (Makes e) text = silent (openedMake e s)
 outside s Closes text = saysOk false s
 outside s Shows text = record { session = s; pieces = shown (s .unit) }
 outside s Tables text = record { session = s; pieces = tableLines (s .unit) }
 
 -- What the line whose bytes before the LF are `text` gets.
 unfoldable pub response : Session → List ℕ → Response
-response s text = cond (s .is_open) (inBlock s (lineOfText text)) (outside s (lineOfText text) text)
+response s text = cond (isOpen (s .block)) (inBlock s (lineOfText text)) (outside s (lineOfText text) text)

@@ -6,9 +6,10 @@ ghost use Rattle.asked.specs.declared.Line.the-variants.{Asks};
 ghost use Rattle.spelling.specs.Spelling.{shown};
 ghost use Rattle.table.specs.Table.{tableLines};
 ghost use Rattle.replies.specs.Lines;
-ghost use Rattle.replies.specs.Lines.{okOrError, inBlock, response};
+ghost use Rattle.replies.specs.Lines.{okOrError, endedUnit, endedMake, endedBlock, inBlock, response};
 use asked::CallLine;
 use asked::Line;
+use blocks::Block;
 use blocks::Session;
 
 // The session after a line, and how far `out` is written.
@@ -33,25 +34,11 @@ fn is_end(line: Line) -> bool
         Line::Wrong => false,
         Line::Asks(_) => false,
         Line::Sets(_) => false,
+        Line::Tells(_, _) => false,
         Line::Opens => false,
+        Line::Makes(_) => false,
         Line::Shows => false,
         Line::Tables => false,
-    }
-}
-
-fn in_block(s: Session, line: Line, out: &mut [u8], at: usize) -> Step
-    ensures { λ r. ⌜ (r .session ≡ inBlock s line .session) × (sheet (now (out .exit)) (r .at) ≡ wroteAll (sheet (now (out .entry)) at) (inBlock s line .pieces)) ⌝ }
-{
-    if is_end(line) {
-        let good = s.good;
-        return Step {
-            session: blocks::close_block(s),
-            at: put_ok(good, out, at),
-        };
-    }
-    Step {
-        session: blocks::draft_line(s, line),
-        at,
     }
 }
 
@@ -61,6 +48,56 @@ fn wrong(s: Session, out: &mut [u8], at: usize) -> Step
     Step {
         session: s,
         at: put_ok(false, out, at),
+    }
+}
+
+fn end_unit(s: Session, out: &mut [u8], at: usize) -> Step
+    ensures { λ r. ⌜ (r .session ≡ endedUnit s .session) × (sheet (now (out .exit)) (r .at) ≡ wroteAll (sheet (now (out .entry)) at) (endedUnit s .pieces)) ⌝ }
+{
+    let good = s.good;
+    Step {
+        session: blocks::close_block(s),
+        at: put_ok(good, out, at),
+    }
+}
+
+// Manufactures, unless a line of the block was bad.
+fn end_make(s: Session, out: &mut [u8], at: usize) -> Step
+    ensures { λ r. ⌜ (r .session ≡ endedMake s .session) × (sheet (now (out .exit)) (r .at) ≡ wroteAll (sheet (now (out .entry)) at) (endedMake s .pieces)) ⌝ }
+{
+    let before = s.unit;
+    let planned = s.planned;
+    if s.good {
+        let w = answers::manufacture(before, planned, out, at);
+        let unit = w.unit;
+        return Step {
+            session: blocks::close_with(s, unit),
+            at: w.at,
+        };
+    }
+    wrong(blocks::close_with(s, before), out, at)
+}
+
+fn end_block(s: Session, out: &mut [u8], at: usize) -> Step
+    ensures { λ r. ⌜ (r .session ≡ endedBlock (s .block) s .session) × (sheet (now (out .exit)) (r .at) ≡ wroteAll (sheet (now (out .entry)) at) (endedBlock (s .block) s .pieces)) ⌝ }
+{
+    let block = s.block;
+    match block {
+        Block::NoBlock => wrong(s, out, at),
+        Block::UnitBlock => end_unit(s, out, at),
+        Block::MakeBlock => end_make(s, out, at),
+    }
+}
+
+fn in_block(s: Session, line: Line, out: &mut [u8], at: usize) -> Step
+    ensures { λ r. ⌜ (r .session ≡ inBlock s line .session) × (sheet (now (out .exit)) (r .at) ≡ wroteAll (sheet (now (out .entry)) at) (inBlock s line .pieces)) ⌝ }
+{
+    if is_end(line) {
+        return end_block(s, out, at);
+    }
+    Step {
+        session: blocks::block_line(s, line),
+        at,
     }
 }
 
@@ -104,8 +141,13 @@ fn outside(s: Session, line: Line, text: &[u8], out: &mut [u8], at: usize) -> St
         Line::Wrong => wrong(s, out, at),
         Line::Asks(call) => ask(s, call, text, out, at),
         Line::Sets(_) => wrong(s, out, at),
+        Line::Tells(_, _) => wrong(s, out, at),
         Line::Opens => Step {
             session: blocks::open_block(s),
+            at,
+        },
+        Line::Makes(edition) => Step {
+            session: blocks::open_make(s, edition),
             at,
         },
         Line::Closes => wrong(s, out, at),
@@ -119,7 +161,8 @@ pub fn respond(s: Session, text: &[u8], out: &mut [u8], at: usize) -> Step
     ensures { λ r. ⌜ (r .session ≡ response s (now (text .entry)) .session) × (sheet (now (out .exit)) (r .at) ≡ wroteAll (sheet (now (out .entry)) at) (response s (now (text .entry)) .pieces)) ⌝ }
 {
     let line = script::read(text);
-    if s.is_open {
+    let block = s.block;
+    if blocks::is_open(block) {
         return in_block(s, line, out, at);
     }
     outside(s, line, text, out, at)

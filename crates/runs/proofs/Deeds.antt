@@ -18,7 +18,7 @@ use Rattle.unit.specs.Units.{emptySlot, slotOf, heldOf, isOut, withSlot, rested
 use Rattle.refusals.specs.Refusals.{lowest, isSame}
 use Rattle.refusals.proofs.Ranks.{is-same}
 use Rattle.engine.specs.Engine.{epcRows, mediumRows, epcEffect, tickEffect, readEffect, writeEffect, powerOnEffect, hardResetEffect}
-use Rattle.readouts.specs.Readouts.{senseRows, logRows, transitionsRows, senseEffect}
+use Rattle.readouts.specs.Readouts.{senseRows, logRows, transitionsRows, newPageRows, senseEffect}
 use Rattle.refusals.specs.declared.Refusal.{Refusal}
 use Rattle.refusals.specs.declared.Refusal.the-variants.{CommandOut, Aborted}
 use Rattle.refusals.specs.declared.Verdict.{Verdict}
@@ -41,7 +41,7 @@ use Rattle.operations.specs.declared.Next.the-variants.{Send, NotSent}
 use Rattle.operations.specs.declared.Progress.the-variants.{More, Ended, NotTaken}
 use Rattle.operations.specs.declared.Report.{Report}
 use Rattle.exchange.specs.declared.Replied.{Replied}
-use Rattle.calls.specs.Calls.{Call, setFeatures, tick, read, write, powerOn, hardReset, softReset, startStop, next, answer, requestSense, logPage, transitionsPage, Said, plain, accepted, sent, progressed, outcome, step}
+use Rattle.calls.specs.Calls.{Call, setFeatures, tick, read, write, powerOn, hardReset, softReset, startStop, next, answer, requestSense, logPage, transitionsPage, newPage, Said, plain, accepted, sent, progressed, outcome, step}
 use Rattle.calls.specs.Described.{isReset, isPowerOn, isWrite, isTickOrLog, isSenseOf, ownRows, effect}
 use Rattle.calls.specs.Table.{verdictIn, appliesTo}
 use Rattle.unit.proofs.Hosts.{other-held}
@@ -59,7 +59,7 @@ pub record Taken (u : Unit) (host : ℕ) (q : Request) : Type 0 where
 -- A fact of the deed and of the record after it holds in every case of a call on the record u: refused, aborted, or a step of an operation,
 pub record Cases (P : Deed → Unit → Type 0) (u : Unit) : Type 0 where
   pub refused : (c : Call) → P (wasRefused c) u
-  pub aborted : (q : Registers) → aborts q (u .drive .records) ≡ true → P (wasAborted (setFeatures q)) (rested u)
+  pub aborted : (q : Registers) → aborts (u .edition) q (u .drive .records) ≡ true → P (wasAborted (setFeatures q)) (rested u)
   pub begun : (host : ℕ) (cdb : List ℕ) (t : Target) → lowest (startStopRows u host cdb) ≡ Clear → wanted cdb ≡ Wants t
       → P (begins host cdb) (withSlot host (Waiting (requestFor t cdb)) (rested u))
   pub asked : (host : ℕ) (q : Request) → lowest (nextRows u host) ≡ Clear → slotOf (u .slots) host ≡ Waiting q
@@ -88,6 +88,7 @@ pub record Others (P : Deed → Unit → Type 0) (u : Unit) : Type 0 where
       → P (does (requestSense host buffer)) (senseEffect host u)
   pub logs : (buffer : List ℕ) → lowest (logRows u buffer) ≡ Clear → P (does (logPage buffer)) u
   pub logs-transitions : (buffer : List ℕ) → lowest (transitionsRows u buffer) ≡ Clear → P (does (transitionsPage buffer)) u
+  pub logs-new : (number : ℕ) (buffer : List ℕ) → lowest (newPageRows u number buffer) ≡ Clear → P (does (newPage number buffer)) u
 
 -- The deed of a call on a record.
 abbrev pub deedAt : Unit → Call → Deed
@@ -116,6 +117,7 @@ turn (answer host reply) = answers host reply
 turn (requestSense host buffer) = apart (requestSense host buffer) (λ said. refl)
 turn (logPage buffer) = apart (logPage buffer) (λ said. refl)
 turn (transitionsPage buffer) = apart (transitionsPage buffer) (λ said. refl)
+turn (newPage number buffer) = apart (newPage number buffer) (λ said. refl)
 
 -- ---- a refused call
 
@@ -219,6 +221,7 @@ module _ (P : Deed → Unit → Type 0) (u : Unit) (cases : Cases P u) (others :
   by-deed (requestSense host buffer) = other (requestSense host buffer) (others .tells host buffer) never
   by-deed (logPage buffer) = other (logPage buffer) (others .logs buffer) never
   by-deed (transitionsPage buffer) = other (transitionsPage buffer) (others .logs-transitions buffer) never
+  by-deed (newPage number buffer) = other (newPage number buffer) (others .logs-new number buffer) never
 
 -- ---- the calls that are no part of an operation, in one row
 
@@ -268,6 +271,8 @@ module _ (P : Deed → Unit → Type 0) (u : Unit) (done : (c : Call) (v : Unit)
     logs = λ buffer clear. row (logPage buffer) _ (passes (refl, refl, refl) refl refl refl) (λ k r s. refl) (λ i. absurd (true≢false i));
     logs-transitions = λ buffer clear.
         row (transitionsPage buffer) _ (passes (refl, refl, refl) refl refl refl) (λ k r s. refl) (λ i. absurd (true≢false i));
+    logs-new = λ number buffer clear.
+        row (newPage number buffer) _ (passes (refl, refl, refl) refl refl refl) (λ k r s. refl) (λ i. absurd (true≢false i));
   }
     where
       used-idle : used (u .drive) .idle .0 ≡ 0

@@ -18,7 +18,7 @@ use Rattle.runs.specs.Serial.{inPlaceOf, serialAfter, serial, nothingWai
 use Rattle.runs.proofs.Deeds.{deedAt, by-deed, reset-call}
 use Rattle.runs.proofs.Known.{Known, known-kept, known-at-first}
 use Rattle.runs.proofs.RunsTo.{RunsTo, runs-nothing, runs-append, gather-append}
-use Rattle.runs.proofs.Same.{Same, mark-at-rest, Stands, Follows, aborts-on, epc-on, ticks-on, reads-on, writes-on, powers-on, resets-hard, resets-soft, tells-on, logs-on, transitions-on, nothing}
+use Rattle.runs.proofs.Same.{Same, mark-at-rest, Stands, Follows, aborts-on, epc-on, ticks-on, reads-on, writes-on, powers-on, resets-hard, resets-soft, tells-on, logs-on, transitions-on, new-page-on, nothing}
 use Rattle.runs.proofs.Pending.{pending, balanced}
 use Rattle.runs.proofs.Slots.{nothing-waits, Quiet}
 use Rattle.runs.proofs.Operations.{begins-on, asks-on, flushes-on, flush-fails-on, last-on}
@@ -47,6 +47,7 @@ module _ (past : List Deed) (u v : Unit) (known : Known past u) (same : Same u v
     tells = tells-on past u v (known .0) same;
     logs = logs-on past u v (known .0) same;
     logs-transitions = transitions-on past u v (known .0) same;
+    logs-new = new-page-on past u v (known .0) same;
   })
 
 -- ---- lists
@@ -122,6 +123,7 @@ at-first : (u : Unit) → wellFormed u ≡ true → Quiet u → Same u u
 at-first u fine quiet = record {
   fine = fine;
   quiet = quiet;
+  edition = refl;
   records = refl;
   stopped = refl;
   held = refl;

@@ -18,6 +18,7 @@ use Rattle.transitions.specs.Counts.{full, heldFull, oneEntry, columnOf, cell, 
 use Rattle.conditions.proofs.Conditions.{depth-below}
 use Rattle.transitions.proofs.Counts.{cell-after, below-full, one-entry-below, entries-add}
 use Rattle.drive.specs.Drives.{made}
+use Rattle.drive.specs.declared.Edition.{Edition}
 use Rattle.drive.specs.declared.Made.{Made}
 use Rattle.drive.specs.declared.Record.{Record}
 use Rattle.drive.proofs.Counted.{CountsAs, still-counts, entered-counts, ticked-counts, used-counts, powered-on-counts}
@@ -106,22 +107,22 @@ counts-go-on u (c ∷ cs) row column h k below =
 -- ---- from manufacture
 
 -- A new unit has counted nothing.
-new-counts : (ms : List Made) (row column : ℕ) → row < 6 → column < 2 → cell row column (countsHanded (manufactureOutcome ms .unit)) ≡ 0
+new-counts : (ed : Edition) (ms : List Made) (row column : ℕ) → row < 6 → column < 2 → cell row column (countsHanded (manufactureOutcome ed ms .unit)) ≡ 0
 unfolding manufactureOutcome made tableOf
-new-counts ms row column h k = on (lowest (rowsOfRecord (wellFormed (madeUnit ms))))
+new-counts ed ms row column h k = on (lowest (rowsOfRecord (wellFormed (madeUnit ed ms))))
   where
     zeros : _≡_ {A = ℕ} (getD (getD (replicate 6 (replicate 2 0)) row []) column 0) 0
     zeros = ap (λ (l : List ℕ). getD l column 0) (value-in (λ i. replicate 2 0) 6 row [] [] h) ∙ value-in (λ j. 0) 2 column [] 0 k
 
-    on : (v : Verdict) → cell row column (countsHanded (settled blank (madeUnit ms) v .unit)) ≡ 0
+    on : (v : Verdict) → cell row column (countsHanded (settled (blank ed) (madeUnit ed ms) v .unit)) ≡ 0
     on Clear = zeros
     on (Given r) = zeros
 
 -- Each cell is the number of entries of its row and column, held at the top.
 pub counts-tell : CountsTell outcome
-counts-tell ms cs row column h k =
-    let u = manufactureOutcome ms .unit in
-    let none = new-counts ms row column h k in
+counts-tell ed ms cs row column h k =
+    let u = manufactureOutcome ed ms .unit in
+    let none = new-counts ed ms row column h k in
     counts-go-on u cs row column h k (rw none (omega arith))
     ∙ ap (λ (n : ℕ). heldFull (n + cellEntries row column (u .drive .power) (history u cs))) none
     ∙ ap heldFull (zero-add (cellEntries row column (u .drive .power) (history u cs)))
@@ -158,10 +159,10 @@ held-sum m n = on (ltb m full) (ltb n full) refl refl
     on false false e f = top (full + full) (m + n) (omega arith) (omega (arith, ltb-false m full e))
 
 pub page-tells : PageTells outcome
-page-tells ms cs row h =
-    let u = manufactureOutcome ms .unit in
+page-tells ed ms cs row h =
+    let u = manufactureOutcome ed ms .unit in
     let p = u .drive .power in
-    ap₂ (λ (m n : ℕ). heldFull (m + n)) (counts-tell ms cs row 0 h (omega arith)) (counts-tell ms cs row 1 h (omega arith))
+    ap₂ (λ (m n : ℕ). heldFull (m + n)) (counts-tell ed ms cs row 0 h (omega arith)) (counts-tell ed ms cs row 1 h (omega arith))
     ∙ held-sum (cellEntries row 0 p (history u cs)) (cellEntries row 1 p (history u cs)) ∙ ap heldFull (both-columns row p (history u cs))
 
 -- ---- the total
@@ -212,10 +213,10 @@ cells-same f g same =
     ap total (values-same (λ row. values (f row) 2) (λ row. values (g row) 2) 6 (λ row h. values-same (f row) (g row) 2 (λ column k. same row column h k)))
 
 pub total-tells : TotalTells outcome
-total-tells ms cs none-full =
-    let u = manufactureOutcome ms .unit in
+total-tells ed ms cs none-full =
+    let u = manufactureOutcome ed ms .unit in
     let t = countsHanded (run u cs) in
     table-cells (run u cs .drive .counts)
     ∙ cells-same (λ row column. cell row column t) (λ row column. cellEntries row column (u .drive .power) (history u cs))
-    (λ row column h k. not-held _ _ (counts-tell ms cs row column h k) (none-full row column h k))
+    (λ row column h k. not-held _ _ (counts-tell ed ms cs row column h k) (none-full row column h k))
     ∙ all-entries (u .drive .power) (history u cs)

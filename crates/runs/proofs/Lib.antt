@@ -27,3 +27,4 @@ pub mod WrongCounts
 pub mod WrongStarts
 pub mod WrongSearches
 pub mod WrongSelections
+pub mod WrongEditions

@@ -49,6 +49,7 @@ use Rattle.refusals.specs.declared.Refusal.the-variants.{BadHost, OwnWaiting}
 
 -- u' and w' are left by the same end of the operation, in u and in w: nothing waits in w', and in u' it no longer does.
 record BothEnded (u w u' w' : Unit) (host : ℕ) : Type 0 where
+  edition : w' .edition ≡ u' .edition
   records : w' .drive .records ≡ u' .drive .records
   power : w' .drive .power ≡ u' .drive .power
   idle : w' .drive .idle ≡ u' .drive .idle
@@ -61,6 +62,7 @@ record BothEnded (u w u' w' : Unit) (host : ℕ) : Type 0 where
 
 both-held : (u w x y : Unit) (host : ℕ) (b : Bool) (f : Failure) → BothEnded u w x y host → BothEnded u w (heldIf b host f x) (heldIf b host f y) host
 both-held u w x y host true f e = record {
+  edition = e .edition;
   records = e .records;
   power = e .power;
   idle = e .idle;
@@ -87,6 +89,9 @@ bad-flush-taken : (w : Unit) (host : ℕ) (p : Request) → p .stage ≡ Flushin
 bad-flush-taken w host p e = flush-answered w host p Bad (rw e)
 
 module _ (u v w : Unit) (host : ℕ) (q p : Request) (same : Same u v) (ready : Ready v w host q p) where
+  edition : w .edition ≡ u .edition
+  edition = ready .edition ∙ same .edition
+
   records : w .drive .records ≡ u .drive .records
   records = ready .records ∙ same .records
 
@@ -95,6 +100,7 @@ module _ (u v w : Unit) (host : ℕ) (q p : Request) (same : Same u v) (ready : 
 
   both-failed : (n m : ℕ) → BothEnded u w (failed u host q n .unit) (failed (nextEffect host w) host p m .unit) host
   both-failed n m = rw (ready .immediate, ready .target) (both-held u w _ _ host (q .immed) (failureOf (q .target)) (record {
+    edition = edition;
     records = records;
     power = refl;
     idle = refl;
@@ -108,6 +114,7 @@ module _ (u v w : Unit) (host : ℕ) (q p : Request) (same : Same u v) (ready : 
 
   both-succeeded : BothEnded u w (succeeded u host q .unit) (succeeded (nextEffect host w) host p .unit) host
   both-succeeded = record {
+    edition = edition;
     records = records;
     power = rw (records, ready .target);
     idle = refl;
@@ -156,7 +163,7 @@ module _ (past : List Deed) (u v : Unit) (known : Known past u) (same : Same u v
   begins-on host cdb t clear r =
       let begun = withSlot host (Waiting (requestFor t cdb)) (rested u) in
       waits-on past u v (known .0) same (begins host cdb) begun (refl, refl, refl, refl, λ k. refl) host (requestFor t cdb)
-      (own-slot (u .slots) host _ (inside u host (known .0) (not-applies (startStopRows u host cdb) BadHost clear))) refl refl refl
+      (own-slot (u .slots) host _ (inside u host (known .0) (not-applies (startStopRows u host cdb) BadHost clear))) refl refl refl refl
       (mark-beside (u .slots) (u .unsaved) (v .unsaved) host _ other (same .unsaved))
     where
       -- the host has nothing waiting yet
@@ -166,14 +173,15 @@ module _ (past : List Deed) (u v : Unit) (known : Known past u) (same : Same u v
 
   pub asks-on : (host : ℕ) (q : Request) → slotOf (u .slots) host ≡ Waiting q → Here (handsOut host (registersOf (dueFrom (u .unsaved) q))) (nextEffect host u)
   asks-on host q waits r =
-      waits-on past u v (known .0) same (handsOut host _) (nextEffect host u) (refl, refl, refl, refl, λ k. refl) host q waits refl refl refl (same .unsaved)
+      waits-on past u v (known .0) same (handsOut host _) (nextEffect host u) (refl, refl, refl, refl, λ k. refl) host q waits refl refl refl refl
+      (same .unsaved)
 
   -- A good flush helps: the mark is clear in the real run alone, until the operation ends.
   pub flushes-on : (host : ℕ) (q : Request) → Taken u host q → Here (goesOn host Good) (flushedWell u host q .unit)
   flushes-on host q taken r =
       let waits = own-slot (u .slots) host (Waiting (flushCounted q)) (inside u host (known .0) (not-applies (answerRows u host) BadHost (taken .clear))) in
       let flushed = flushedWell u host q .unit in
-      waits-on past u v (known .0) same (goesOn host Good) flushed (refl, refl, refl, refl, λ k. refl) host (flushCounted q) waits refl refl refl
+      waits-on past u v (known .0) same (goesOn host Good) flushed (refl, refl, refl, refl, λ k. refl) host (flushCounted q) waits refl refl refl refl
       (inr (record {
         saved = refl;
         host = host;
@@ -234,6 +242,7 @@ module _ (past : List Deed) (u v : Unit) (known : Known past u) (same : Same u v
       same = record {
         fine = left-fine v w' _ ds (same .fine) runs;
         quiet = both .quiet;
+        edition = both .edition;
         records = both .records;
         stopped = both .stopped;
         held = both .held;

@@ -10,6 +10,7 @@ use lib.Dec.{eqb}
 use lib.ListN.{take, drop}
 use borrow.Author.Tests.{not-true}
 use Rattle.rows.proofs.Places.{and-left, and-right}
+use Rattle.drive.specs.declared.Edition.{Edition}
 use Rattle.drive.specs.declared.Made.{Made}
 use Rattle.rows.proofs.Choices.{either}
 use Rattle.unit.specs.Units.{slotOf, wellFormed}
@@ -281,13 +282,13 @@ module _ (u : Unit) (rest : Saved u) (cs : List Call) where
 -- ---- from manufacture on
 
 -- A unit is made so, whether it is the one asked for or the blank one.
-made-saved : (ms : List Made) → Saved (manufactureOutcome ms .unit)
-made-saved ms = let rest = manufacture-rests ms in (manufacture-well-formed ms, rw (rest .0), rest .1)
+made-saved : (ed : Edition) (ms : List Made) → Saved (manufactureOutcome ed ms .unit)
+made-saved ed ms = let rest = manufacture-rests ed ms in (manufacture-well-formed ed ms, rw (rest .0), rest .1)
 
 -- The unsaved mark tells whether every write accepted since the last power-on is safe.
 pub mark-tells : MarkTells outcome
-mark-tells ms = marked-exactly _ (made-saved ms)
+mark-tells ed ms = marked-exactly _ (made-saved ed ms)
 
 -- No byte is left behind.
 pub no-byte-left-behind : NoByteLeftBehind outcome
-no-byte-left-behind ms = none-left _ (made-saved ms)
+no-byte-left-behind ed ms = none-left _ (made-saved ed ms)

@@ -22,8 +22,8 @@ use Rattle.unit.specs.Units.{largestOf, slotOf, isOut, wellFormed, withDrive, r
 use Rattle.refusals.specs.Refusals.{_gives_, lowest}
 use Rattle.refusals.specs.Verdicts.{rowsOfPage}
 use Rattle.engine.specs.Engine.{epcRows, tickRows, mediumRows, resetRows, epcEffect, tickEffect, readEffect, writeEffect, powerOnEffect, hardResetEffect}
-use Rattle.readouts.specs.Readouts.{senseRows, logRows, transitionsRows, senseEffect}
-use Rattle.refusals.specs.declared.Refusal.the-variants.{Aborted, BadHost, BadLength, IsStopped}
+use Rattle.readouts.specs.Readouts.{senseRows, logRows, transitionsRows, newPageRows, senseEffect}
+use Rattle.refusals.specs.declared.Refusal.the-variants.{Aborted, BadHost, BadLength, NoSuchPage, IsStopped}
 use Rattle.refusals.specs.declared.Verdict.the-variants.{Clear, Given}
 use Rattle.requests.specs.declared.Stage.the-variants.{Flushing}
 use Rattle.requests.specs.declared.Request.{Request}
@@ -32,7 +32,7 @@ use Rattle.unit.specs.declared.Slot.the-variants.{Waiting}
 use Rattle.unit.specs.declared.HostSlot.{HostSlot}
 use Rattle.unit.specs.declared.Out.the-variants.{NoneOut}
 use Rattle.unit.specs.declared.Unit.{Unit}
-use Rattle.calls.specs.Calls.{Call, setFeatures, tick, read, write, powerOn, hardReset, softReset, requestSense, logPage, transitionsPage, Said, outcome}
+use Rattle.calls.specs.Calls.{Call, setFeatures, tick, read, write, powerOn, hardReset, softReset, requestSense, logPage, transitionsPage, newPage, Said, outcome}
 use Rattle.calls.specs.Table.{verdictIn}
 use Rattle.calls.specs.Described.{ownRows, effect, isReset}
 use Rattle.refusals.proofs.Lowest.{not-applies, row-passes, row-gives, clear-when}
@@ -64,6 +64,7 @@ SameMark slots mark mark' = (mark' ≡ mark) ⊎ Helped slots mark
 pub record Same (u v : Unit) : Type 0 where
   pub fine : wellFormed v ≡ true
   pub quiet : Quiet v
+  pub edition : v .edition ≡ u .edition
   pub records : v .drive .records ≡ u .drive .records
   pub stopped : v .stopped ≡ u .stopped
   pub held : v .held ≡ u .held
@@ -175,6 +176,7 @@ module _ (past : List Deed) (u v : Unit) (fine : wellFormed u ≡ true) (same : 
   with-drives d e records rest ok = record {
     fine = ok;
     quiet = same .quiet;
+    edition = same .edition;
     records = records;
     stopped = same .stopped;
     held = same .held;
@@ -195,8 +197,8 @@ module _ (past : List Deed) (u v : Unit) (fine : wellFormed u ≡ true) (same : 
       with-drives (ticked (largestOf u) (u .drive)) (ticked (largestOf v) (v .drive))
       (tick-records (largestOf v) (v .drive) ∙ same .records ∙ sym (tick-records (largestOf u) (u .drive)))
       (λ quiet. let (power, idle) = same .at-rest quiet in (
-        fall-alike (largestOf u) (v .drive) (u .drive) (same .records) power idle,
-        count-alike (largestOf u) (v .drive) (u .drive) idle,
+        rw (same .edition) (fall-alike (largestOf u) (v .drive) (u .drive) (same .records) power idle),
+        rw (same .edition) (count-alike (largestOf u) (v .drive) (u .drive) idle),
       ))
 
   pub ticks-on : Stands (does tick) (tickEffect u)
@@ -205,7 +207,7 @@ module _ (past : List Deed) (u v : Unit) (fine : wellFormed u ≡ true) (same : 
       (ticked-same (isOut (u .out)) refl)
 
   epc-clear : (q : Registers) → lowest (epcRows u q) ≡ Clear → lowest (epcRows v q) ≡ Clear
-  epc-clear q clear = clear-when (epcRows v q) (rw (same .fine, none-out, same .records, not-applies (epcRows u q) Aborted clear))
+  epc-clear q clear = clear-when (epcRows v q) (rw (same .fine, none-out, same .records, same .edition, not-applies (epcRows u q) Aborted clear))
 
   records-same : (q : Registers) → performed q (v .drive) .records ≡ performed q (u .drive) .records
   records-same q = records-after q (v .drive) ∙ rw (same .records) (sym (records-after q (u .drive)))
@@ -218,12 +220,12 @@ module _ (past : List Deed) (u v : Unit) (fine : wellFormed u ≡ true) (same : 
         count-after q (v .drive) ∙ sym (count-after q (u .drive)),
       )))
 
-  aborts-given : (q : Registers) → aborts q (u .drive .records) ≡ true → lowest (epcRows v q) ≡ Given Aborted
+  aborts-given : (q : Registers) → aborts (u .edition) q (u .drive .records) ≡ true → lowest (epcRows v q) ≡ Given Aborted
   aborts-given q ten =
       row-passes _ _ (rw (same .fine)) ∙ row-passes _ _ (rw none-out)
-      ∙ row-gives (aborts q (v .drive .records) gives Aborted) [] (rw (same .records) ten)
+      ∙ row-gives (aborts (v .edition) q (v .drive .records) gives Aborted) [] (rw (same .records, same .edition) ten)
 
-  pub aborts-on : (q : Registers) → aborts q (u .drive .records) ≡ true → Stands (wasAborted (setFeatures q)) (rested u)
+  pub aborts-on : (q : Registers) → aborts (u .edition) q (u .drive .records) ≡ true → Stands (wasAborted (setFeatures q)) (rested u)
   aborts-on q ten r =
       let runs = aborted-here v q (aborts-given q ten) in
       record {
@@ -259,6 +261,7 @@ module _ (past : List Deed) (u v : Unit) (fine : wellFormed u ≡ true) (same : 
   writes-on host clear r = itself (write host) (writeEffect u) (writeEffect v) (λ said. refl) (medium-clear host clear) refl (λ ok. record {
     fine = ok;
     quiet = same .quiet;
+    edition = same .edition;
     records = used-same .0;
     stopped = same .stopped;
     held = same .held;
@@ -278,6 +281,7 @@ module _ (past : List Deed) (u v : Unit) (fine : wellFormed u ≡ true) (same : 
       itself powerOn (powerOnEffect u) (powerOnEffect v) (λ said. refl) reset-clear refl (λ ok. record {
         fine = ok;
         quiet = none-waits;
+        edition = same .edition;
         records = w .0 ∙ ap (mapAt savedRestored 0) (same .records) ∙ sym (x .0);
         stopped = refl;
         held = refl;
@@ -289,6 +293,7 @@ module _ (past : List Deed) (u v : Unit) (fine : wellFormed u ≡ true) (same : 
   reset-same quiet ok = record {
     fine = ok;
     quiet = none-waits;
+    edition = same .edition;
     records = same .records;
     stopped = same .stopped;
     held = refl;
@@ -314,6 +319,7 @@ module _ (past : List Deed) (u v : Unit) (fine : wellFormed u ≡ true) (same : 
       itself (requestSense host buffer) (senseEffect host u) (senseEffect host v) (λ said. refl) (sense-clear host buffer clear) refl (λ ok. record {
         fine = ok;
         quiet = same .quiet;
+        edition = same .edition;
         records = same .records;
         stopped = same .stopped;
         held = rw (same .held);
@@ -332,14 +338,24 @@ module _ (past : List Deed) (u v : Unit) (fine : wellFormed u ≡ true) (same : 
   pub transitions-on : (buffer : List ℕ) → lowest (transitionsRows u buffer) ≡ Clear → Stands (does (transitionsPage buffer)) u
   transitions-on buffer clear r = itself (transitionsPage buffer) u v (λ said. refl) (page-clear 52 (length buffer) clear) refl (λ ok. same)
 
+  new-page-clear : (number : ℕ) (buffer : List ℕ) → lowest (newPageRows u number buffer) ≡ Clear → lowest (newPageRows v number buffer) ≡ Clear
+  new-page-clear number buffer clear =
+      let rows = newPageRows u number buffer in
+      clear-when (newPageRows v number buffer) (rw (not-applies rows BadLength clear, same .fine, same .edition, not-applies rows NoSuchPage clear))
+
+  pub new-page-on : (number : ℕ) (buffer : List ℕ) → lowest (newPageRows u number buffer) ≡ Clear → Stands (does (newPage number buffer)) u
+  new-page-on number buffer clear r = itself (newPage number buffer) u v (λ said. refl) (new-page-clear number buffer clear) refl (λ ok. same)
+
   -- ---- an operation under way: nothing stands in the serial run, and something waits in the real one
 
   pub waits-on : (d : Deed) (u' : Unit) → Silent past d → (host : ℕ) (q : Request) → slotOf (u' .slots) host ≡ Waiting q
-      → u' .drive .records ≡ u .drive .records → u' .stopped ≡ u .stopped → u' .held ≡ u .held → SameMark (u' .slots) (u' .unsaved) (v .unsaved)
+      → u' .edition ≡ u .edition → u' .drive .records ≡ u .drive .records → u' .stopped ≡ u .stopped → u' .held ≡ u .held
+      → SameMark (u' .slots) (u' .unsaved) (v .unsaved)
       → Follows past v d u'
-  waits-on d u' silent host q waits records stopped held mark = nothing d u' silent (record {
+  waits-on d u' silent host q waits edition records stopped held mark = nothing d u' silent (record {
     fine = same .fine;
     quiet = same .quiet;
+    edition = same .edition ∙ sym edition;
     records = same .records ∙ sym records;
     stopped = same .stopped ∙ sym stopped;
     held = same .held ∙ sym held;

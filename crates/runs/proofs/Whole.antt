@@ -87,6 +87,7 @@ pub record Ready (v w : Unit) (host : ℕ) (q p : Request) : Type 0 where
   pub fine : wellFormed w ≡ true
   pub waits : slotOf (w .slots) host ≡ Waiting p
   pub out : w .out ≡ NoneOut
+  pub edition : w .edition ≡ v .edition
   pub records : w .drive .records ≡ v .drive .records
   pub stopped : w .stopped ≡ v .stopped
   pub held : w .held ≡ v .held
@@ -138,6 +139,7 @@ module _ (v : Unit) (host : ℕ) (cdb : List ℕ) (q : Request) (a : Admitted v 
     fine = begun-fine;
     waits = first-waits;
     out = none-out;
+    edition = refl;
     records = refl;
     stopped = refl;
     held = refl;
@@ -164,6 +166,7 @@ module _ (v : Unit) (host : ℕ) (cdb : List ℕ) (q : Request) (a : Admitted v 
         fine = w-fine;
         waits = own-slot (begun .slots) host (Waiting p) (inside begun host begun-fine below);
         out = refl;
+        edition = refl;
         records = refl;
         stopped = refl;
         held = refl;

@@ -16,6 +16,7 @@ use Rattle.conditions.specs.declared.Cause.the-variants.{Timer}
 use Rattle.conditions.specs.declared.Power.{Power}
 use Rattle.conditions.specs.declared.Power.the-variants.{Active, Low}
 use Rattle.drive.specs.Drives.{driveOf, withCounts}
+use Rattle.drive.specs.declared.Edition.the-variants.{Draft}
 use Rattle.drive.specs.declared.Made.{Made}
 use Rattle.drive.specs.declared.Setting.{Setting}
 use Rattle.epc.specs.Epc.{subOf, isGoTo}
@@ -110,32 +111,32 @@ goToA = epcCall 0x81 0x1
 
 pub counts-nothing-fails : CountsTell countsNothing → ⊥
 unfolding computed manufactureOutcome
-counts-nothing-fails holds = let shown : _≡_ {A = ℕ} 0 1 = holds (fiveOf off) (goToA ∷ []) 1 1 (omega arith) (omega arith) in omega arith
+counts-nothing-fails holds = let shown : _≡_ {A = ℕ} 0 1 = holds Draft (fiveOf off) (goToA ∷ []) 1 1 (omega arith) (omega arith) in omega arith
 
 -- Its page stays at 0 too, in the first rows and in the last.
 pub counts-nothing-fails-page : PageTells countsNothing → ⊥
 unfolding computed manufactureOutcome
-counts-nothing-fails-page holds = let shown : _≡_ {A = ℕ} 0 1 = holds (fiveOf off) (goToA ∷ []) 1 (omega arith) in omega arith
+counts-nothing-fails-page holds = let shown : _≡_ {A = ℕ} 0 1 = holds Draft (fiveOf off) (goToA ∷ []) 1 (omega arith) in omega arith
 
 pub counts-nothing-fails-last : PageTells countsNothing → ⊥
 unfolding computed manufactureOutcome
-counts-nothing-fails-last holds = let shown : _≡_ {A = ℕ} 0 1 = holds (fiveOf (on 1)) (tick ∷ []) 5 (omega arith) in omega arith
+counts-nothing-fails-last holds = let shown : _≡_ {A = ℕ} 0 1 = holds Draft (fiveOf (on 1)) (tick ∷ []) 5 (omega arith) in omega arith
 
 -- A go to is no timer's entry.
 pub cause-lies-fails : CountsTell causeLies → ⊥
 unfolding computed manufactureOutcome
-cause-lies-fails holds = let shown : _≡_ {A = ℕ} 0 1 = holds (fiveOf off) (goToA ∷ []) 1 1 (omega arith) (omega arith) in omega arith
+cause-lies-fails holds = let shown : _≡_ {A = ℕ} 0 1 = holds Draft (fiveOf off) (goToA ∷ []) 1 1 (omega arith) (omega arith) in omega arith
 
 -- Two go tos of Idle_A are one entry.
 pub counts-held-fails : CountsTell countsHeld → ⊥
 unfolding computed manufactureOutcome
 counts-held-fails holds =
-    let shown : _≡_ {A = ℕ} 2 1 = holds (fiveOf off) (goToA ∷ goToA ∷ []) 1 1 (omega arith) (omega arith) in omega arith
+    let shown : _≡_ {A = ℕ} 2 1 = holds Draft (fiveOf off) (goToA ∷ goToA ∷ []) 1 1 (omega arith) (omega arith) in omega arith
 
 -- Standby_z by its timer: the first column has it not.
 pub other-column-fails : CountsTell otherColumn → ⊥
 unfolding computed manufactureOutcome
-other-column-fails holds = let shown : _≡_ {A = ℕ} 0 1 = holds (fiveOf (on 1)) (tick ∷ []) 5 0 (omega arith) (omega arith) in omega arith
+other-column-fails holds = let shown : _≡_ {A = ℕ} 0 1 = holds Draft (fiveOf (on 1)) (tick ∷ []) 5 0 (omega arith) (omega arith) in omega arith
 
 -- From Idle_A a stop's good flush enters Active.
 abbrev flushesFromA : List Call
@@ -143,13 +144,13 @@ flushesFromA = goToA ∷ startStop 0 stop ∷ next 0 ∷ answer 0 Good ∷ []
 
 pub loses-flush-fails : CountsTell losesFlush → ⊥
 unfolding computed manufactureOutcome
-loses-flush-fails holds = let shown : _≡_ {A = ℕ} 0 1 = holds (fiveOf off) flushesFromA 0 1 (omega arith) (omega arith) in omega arith
+loses-flush-fails holds = let shown : _≡_ {A = ℕ} 0 1 = holds Draft (fiveOf off) flushesFromA 0 1 (omega arith) (omega arith) in omega arith
 
 -- A reset after a go to.
 pub reset-clears-fails : CountsTell resetClears → ⊥
 unfolding computed manufactureOutcome
 reset-clears-fails holds =
-    let shown : _≡_ {A = ℕ} 0 1 = holds (fiveOf off) (goToA ∷ hardReset ∷ []) 1 1 (omega arith) (omega arith) in omega arith
+    let shown : _≡_ {A = ℕ} 0 1 = holds Draft (fiveOf off) (goToA ∷ hardReset ∷ []) 1 1 (omega arith) (omega arith) in omega arith
 
 -- From a record with a full cell.
 pub wraps-fails : CountsGoOn wraps → ⊥
@@ -178,8 +179,8 @@ full-is-full none = let below : _<_ 0xFFFFFFFF 0xFFFFFFFF = none 0 0 (omega arit
 pub loses-flush-fails-total : TotalTells losesFlush → ⊥
 unfolding computed manufactureOutcome
 loses-flush-fails-total holds =
-    let left = runBy losesFlush (manufactureOutcome (fiveOf off) .unit) flushesFromA in
-    let shown : _≡_ {A = ℕ} 1 2 = holds (fiveOf off) flushesFromA (none-full (countsHanded left) refl refl) in omega arith
+    let left = runBy losesFlush (manufactureOutcome Draft (fiveOf off) .unit) flushesFromA in
+    let shown : _≡_ {A = ℕ} 1 2 = holds Draft (fiveOf off) flushesFromA (none-full (countsHanded left) refl refl) in omega arith
 
 -- ---- "Demand 3 does not compare them."
 

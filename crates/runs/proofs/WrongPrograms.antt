@@ -196,7 +196,7 @@ markCleared before u = withMarks false (u .unsaved) u
 
 -- or the held senses are those before the call.
 abbrev pub heldKept : Unit → Unit → Unit
-heldKept before u = unitOf (u .drive) (u .stopped) (u .unsaved) (u .slots) (before .held) (u .out)
+heldKept before u = unitOf (u .edition) (u .drive) (u .stopped) (u .unsaved) (u .slots) (before .held) (u .out)
 
 -- Against "Bad flush: Active" and "Bad last command: Active": the power condition stays.
 abbrev pub keepsPower : StepFunction
@@ -216,7 +216,7 @@ forgets = onFailure heldKept
 
 -- One that reports twice: it gives a failure's report, and lets the operation wait on.
 abbrev pub reportsTwice : StepFunction
-reportsTwice = onFailure (λ before u. unitOf (u .drive) (u .stopped) (u .unsaved) (before .slots) (u .held) (u .out))
+reportsTwice = onFailure (λ before u. unitOf (u .edition) (u .drive) (u .stopped) (u .unsaved) (before .slots) (u .held) (u .out))
 
 -- ---- refusals
 
@@ -278,7 +278,7 @@ isMore (progressed (NotTaken r)) = false
 abbrev pub endsAtFlush : StepFunction
 endsAtFlush u c =
     let v = outcome u c .unit in
-    let over = unitOf (v .drive) (v .stopped) (v .unsaved) (replicate 4 emptySlot) (v .held) (v .out) in
+    let over = unitOf (v .edition) (v .drive) (v .stopped) (v .unsaved) (replicate 4 emptySlot) (v .held) (v .out) in
     let said = progressed (Ended (record { status = GoodStatus; sense = NoSense; flushes = 1 })) in
     cond (isMore (outcome u c .said)) (saying said (leaving over (outcome u c))) (outcome u c)
 
@@ -286,7 +286,9 @@ endsAtFlush u c =
 abbrev pub uncounts : StepFunction
 uncounts u c =
     let v = outcome u c .unit in
-    cond (isMore (outcome u c .said)) (leaving (unitOf (v .drive) (v .stopped) (v .unsaved) (u .slots) (v .held) (v .out)) (outcome u c)) (outcome u c)
+    cond (isMore (outcome u c .said))
+    (leaving (unitOf (v .edition) (v .drive) (v .stopped) (v .unsaved) (u .slots) (v .held) (v .out)) (outcome u c))
+    (outcome u c)
 
 -- One that owes every status until the end.
 abbrev pub pending : Said → Said
@@ -310,7 +312,7 @@ mutes = reporting (λ report. Ended (record { status = report .status; sense = N
 
 -- One that drops every host's held sense once any host asks for its own.
 abbrev pub noneHeldIn : Unit → Unit
-noneHeldIn u = unitOf (u .drive) (u .stopped) (u .unsaved) (u .slots) (replicate 4 noneHeld) (u .out)
+noneHeldIn u = unitOf (u .edition) (u .drive) (u .stopped) (u .unsaved) (u .slots) (replicate 4 noneHeld) (u .out)
 
 abbrev pub dropsAllHeld : StepFunction
 dropsAllHeld u c =
@@ -321,7 +323,7 @@ abbrev pub tellsAgain : StepFunction
 tellsAgain u c =
     let o = outcome u c in
     cond (isSenseOf (λ host. true) c)
-    (leaving (unitOf (o .unit .drive) (o .unit .stopped) (o .unit .unsaved) (o .unit .slots) (u .held) (o .unit .out)) o)
+    (leaving (unitOf (o .unit .edition) (o .unit .drive) (o .unit .stopped) (o .unit .unsaved) (o .unit .slots) (u .held) (o .unit .out)) o)
     o
 
 -- One that "always reports Active": the bytes are those of an Active unit. The condition is in no other buffer, so no other call is touched.

@@ -12,7 +12,8 @@ use Rattle.conditions.specs.Conditions.{conditionAt, depth}
 use Rattle.conditions.specs.declared.Cause.the-variants.{Timer}
 use Rattle.conditions.specs.declared.Power.{Power}
 use Rattle.conditions.specs.declared.Power.the-variants.{Active, Low}
-use Rattle.drive.specs.Records.{largest}
+use Rattle.drive.specs.declared.Edition.the-variants.{Published}
+use Rattle.drive.specs.Records.{largestTimer}
 use Rattle.drive.specs.Drives.{ranOut, timersAsk, fallen}
 use Rattle.drive.specs.declared.Record.{Record}
 use Rattle.calls.specs.Calls.{tick, StepFunction}
@@ -25,7 +26,7 @@ use Rattle.runs.proofs.WrongPrograms.{entering, orStays}
 
 -- It stops at the first that is enabled, run out or not: no timer is longer than the largest.
 abbrev pub firstEnabled : StepFunction
-firstEnabled = entering (λ d n. fallen (timersAsk (d .records) largest) (d .power))
+firstEnabled = entering (λ d n. fallen (timersAsk (d .records) (largestTimer Published)) (d .power))
 
 -- It looks from Idle_A downwards and stops: a condition that has run out is heard only if none above it was.
 abbrev heardFirst : ℕ → ℕ → Record → Power → Power

@@ -8,6 +8,7 @@ use lib.Dec.{eqb}
 use lib.ListN.{getD, replicate}
 use Rattle.rows.specs.Rows.{someAt, mapAt}
 use Rattle.drive.specs.Drives.{withRecords}
+use Rattle.drive.specs.declared.Edition.{Edition}
 use Rattle.drive.specs.declared.Record.{Record}
 use Rattle.registers.specs.Commands.{named}
 use Rattle.registers.specs.declared.Registers.{Registers}
@@ -63,13 +64,13 @@ changedWhere test c u =
 abbrev pub changesFixed : StepFunction
 changesFixed u c = cond (everyDone u c) (done (changedWhere (λ place r. r .supported) c u)) (outcome u c)
 
-abbrev registersRight : Registers → Bool
-registersRight q =
-    eqb (q .command) 0xEF && eqb (q .feature) 0x4A && not (isUnknown (subOf (q .lba))) && not (reservedInLba (subOf (q .lba)) (q .lba))
+abbrev registersRight : Edition → Registers → Bool
+registersRight ed q =
+    eqb (q .command) 0xEF && eqb (q .feature) 0x4A && not (isUnknown (subOf (q .lba))) && not (reservedInLba ed (subOf (q .lba)) (q .lba))
 
 -- Only 10 can refuse the call, and not for its registers.
 abbrev isRight : Unit → Call → Bool
-isRight u c = isForEvery c && registersRight (describe c .registers) && wellFormed u && not (isOut (u .out))
+isRight u c = isForEvery c && registersRight (u .edition) (describe c .registers) && wellFormed u && not (isOut (u .out))
 
 -- With bit 4 it passes over a selected condition that is not saveable, and changes the others.
 abbrev pub passesOver : StepFunction

@@ -12,6 +12,7 @@ use Rattle.rows.proofs.Places.{and-left, and-right}
 use Rattle.conditions.specs.Conditions.{depth}
 use Rattle.conditions.specs.declared.Condition.the-variants.{StandbyZ}
 use Rattle.conditions.specs.declared.Cause.the-variants.{Command}
+use Rattle.drive.specs.declared.Edition.the-variants.{Draft}
 use Rattle.drive.specs.declared.Made.{Made}
 use Rattle.conditions.specs.declared.Power.the-variants.{Active, Low}
 use Rattle.registers.specs.declared.Registers.{Registers}
@@ -130,9 +131,9 @@ unsafe-left past i written powered flushed all =
     true≢false (sym (safe .2) ∙ never-at latestFlushed refl (take i past) flushed (safe .0))
 
 -- A run after which a flushing operation's last command goes out over such a write.
-leaves-bytes : (by : StepFunction) (cs : List Call) (i : ℕ) → let past = pastBy by (manufactureOutcome ordered .unit) cs in
+leaves-bytes : (by : StepFunction) (cs : List Call) (i : ℕ) → let past = pastBy by (manufactureOutcome Draft ordered .unit) cs in
     lastGoesOut past ≡ true → WroteAgo past i → never latestPoweredOn past ≡ true → never latestFlushed (take i past) ≡ true → NoByteLeftBehind by → ⊥
-leaves-bytes by cs i out written powered flushed holds = unsafe-left _ i written powered flushed (holds ordered cs .0 out)
+leaves-bytes by cs i out written powered flushed holds = unsafe-left _ i written powered flushed (holds Draft ordered cs .0 out)
 
 -- Example m's run: the stop goes out right after the write.
 abbrev goesOut : List Call
@@ -154,7 +155,7 @@ clears-mark-leaves-bytes = leaves-bytes clearsMark (goesToIdleB ∷ next 0 ∷ a
 pub clears-mark-parks-over-bytes : NoByteLeftBehind clearsMark → ⊥
 unfolding computed manufactureOutcome
 clears-mark-parks-over-bytes holds =
-    unsafe-left (pastBy clearsMark (manufactureOutcome ordered .unit) writeBetween) 2 refl refl refl (holds ordered writeBetween .1 refl)
+    unsafe-left (pastBy clearsMark (manufactureOutcome Draft ordered .unit) writeBetween) 2 refl refl refl (holds Draft ordered writeBetween .1 refl)
 
 -- The flush is sent, then the write is taken, then the flush is answered good, and the stop goes out.
 pub writes-through-leaves-bytes : NoByteLeftBehind writesThrough → ⊥
@@ -253,7 +254,7 @@ changes-nothing-fails-demand-3 holds =
 pub changes-nothing-fails-mark : MarkTells changesNothing → ⊥
 unfolding computed manufactureOutcome
 changes-nothing-fails-mark holds =
-    let unsafe = holds ordered (write 0 ∷ []) .1 .0 refl 0 refl (λ j before. absurd (omega arith)) in
+    let unsafe = holds Draft ordered (write 0 ∷ []) .1 .0 refl 0 refl (λ j before. absurd (omega arith)) in
     omega (arith, unsafe .1)
 
 -- The mark stays clear over a write that is not.
@@ -261,7 +262,7 @@ pub changes-nothing-hides-write : MarkTells changesNothing → ⊥
 unfolding computed manufactureOutcome
 changes-nothing-hides-write holds =
     false≢true
-    (holds ordered (write 0 ∷ []) .0 .1
+    (holds Draft ordered (write 0 ∷ []) .0 .1
     (record { ago = 0; was-write = refl; since-power-on = λ j before. absurd (omega arith); not-safe = λ s. omega (arith, s .1) }))
 
 -- What is left shows in rows d and e: a current setting, and the idle count after the abort.

@@ -11,7 +11,7 @@ use Rattle.operations.specs.declared.Next.the-variants.{Send, NotSent}
 use Rattle.operations.specs.declared.Progress.the-variants.{More, Ended, NotTaken}
 use Rattle.requests.specs.declared.Reply.{Reply}
 use Rattle.operations.specs.declared.Report.{Report}
-use Rattle.calls.specs.Calls.{Call, setFeatures, tick, read, write, powerOn, hardReset, softReset, startStop, next, answer, requestSense, logPage, transitionsPage, Said, plain, accepted, sent, progressed, Event}
+use Rattle.calls.specs.Calls.{Call, setFeatures, tick, read, write, powerOn, hardReset, softReset, startStop, next, answer, requestSense, logPage, transitionsPage, newPage, Said, plain, accepted, sent, progressed, Event}
 use Rattle.calls.specs.Table.{verdictIn}
 
 pub data Deed : Type 0 where
@@ -137,6 +137,7 @@ deedOf (answer host reply) said = answering host reply said
 deedOf (requestSense host buffer) said = another (requestSense host buffer) (verdictIn said)
 deedOf (logPage buffer) said = another (logPage buffer) (verdictIn said)
 deedOf (transitionsPage buffer) said = another (transitionsPage buffer) (verdictIn said)
+deedOf (newPage number buffer) said = another (newPage number buffer) (verdictIn said)
 
 -- The deeds of a history, in its order.
 abbrev pub deedIn : Event → Deed

@@ -9,6 +9,7 @@ use Rattle.conditions.specs.Conditions.{depth}
 use Rattle.conditions.specs.declared.Power.{Power}
 use Rattle.transitions.specs.Counts.{full, heldFull, cell}
 use Rattle.transitions.specs.Page.{rowSum}
+use Rattle.drive.specs.declared.Edition.{Edition}
 use Rattle.drive.specs.declared.Made.{Made}
 use Rattle.engine.specs.Engine.{manufactureOutcome}
 use Rattle.readouts.specs.Readouts.{countsHanded}
@@ -54,8 +55,8 @@ changesIn = howOften (λ before c after. isChange before after)
 
 -- Over any run from manufacture each cell is the number of entries of its row and column in the history, "staying at the top once there".
 abbrev pub CountsTell : StepFunction → Type 0
-CountsTell by = (ms : List Made) (cs : List Call) (row column : ℕ) → row < 6 → column < 2
-    → let u = manufactureOutcome ms .unit in
+CountsTell by = (ed : Edition) (ms : List Made) (cs : List Call) (row column : ℕ) → row < 6 → column < 2
+    → let u = manufactureOutcome ed ms .unit in
     cell row column (countsHanded (runBy by u cs)) ≡ heldFull (cellEntries row column (u .drive .power) (historyBy by u cs))
 
 -- From any record with counts of 32 bits each cell goes on from what it was.
@@ -66,8 +67,8 @@ CountsGoOn by = (u : Unit) (cs : List Call) (row column : ℕ) → row < 6 → c
 
 -- "the page shows each row's sum, cut at the top": so what it shows of a row is how often that condition was entered, full cells or not.
 abbrev pub PageTells : StepFunction → Type 0
-PageTells by = (ms : List Made) (cs : List Call) (row : ℕ) → row < 6
-    → let u = manufactureOutcome ms .unit in
+PageTells by = (ed : Edition) (ms : List Made) (cs : List Call) (row : ℕ) → row < 6
+    → let u = manufactureOutcome ed ms .unit in
     rowSum row (countsHanded (runBy by u cs)) ≡ heldFull (entriesInto row (u .drive .power) (historyBy by u cs))
 
 -- "While no cell is full the cells' total equals the number of condition changes in the history since manufacture".
@@ -83,6 +84,6 @@ abbrev pub NoneFull : List (List ℕ) → Type 0
 NoneFull t = (row column : ℕ) → row < 6 → column < 2 → cell row column t < full
 
 abbrev pub TotalTells : StepFunction → Type 0
-TotalTells by = (ms : List Made) (cs : List Call)
-    → let u = manufactureOutcome ms .unit in
+TotalTells by = (ed : Edition) (ms : List Made) (cs : List Call)
+    → let u = manufactureOutcome ed ms .unit in
     NoneFull (countsHanded (runBy by u cs)) → total (countsHanded (runBy by u cs)) ≡ changesIn (u .drive .power) (historyBy by u cs)

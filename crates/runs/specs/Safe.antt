@@ -6,6 +6,7 @@ use mathlib.Core.Logic.{_↔_}
 use Prim.Native.Nat.{ℕ, _<_}
 use lib.Dec.{eqb}
 use lib.ListN.{take, drop}
+use Rattle.drive.specs.declared.Edition.{Edition}
 use Rattle.drive.specs.declared.Made.{Made}
 use Rattle.engine.specs.Engine.{manufactureOutcome}
 use Rattle.requests.specs.declared.Target.the-variants.{Stop, Start, GoTo}
@@ -81,12 +82,12 @@ lastAnsweredGood (d ∷ past) = ifEnds (λ host reply report. asksFlush (cdbOf h
 -- Whenever a flushing operation's last command goes out, and when it is answered good, every write accepted since the last power-on is safe:
 -- over any run of calls on a unit from its manufacture on.
 abbrev pub NoByteLeftBehind : StepFunction → Type 0
-NoByteLeftBehind by = (ms : List Made) (cs : List Call) → let past = pastBy by (manufactureOutcome ms .unit) cs in
+NoByteLeftBehind by = (ed : Edition) (ms : List Made) (cs : List Call) → let past = pastBy by (manufactureOutcome ed ms .unit) cs in
     (lastGoesOut past ≡ true → AllSafe past) × (lastAnsweredGood past ≡ true → AllSafe past)
 
 -- ---- the unsaved mark
 
 -- It is set exactly when some write accepted since the last power-on is not safe, and clear exactly when every one is.
 abbrev pub MarkTells : StepFunction → Type 0
-MarkTells by = (ms : List Made) (cs : List Call) → let u = manufactureOutcome ms .unit in
+MarkTells by = (ed : Edition) (ms : List Made) (cs : List Call) → let u = manufactureOutcome ed ms .unit in
     ((runBy by u cs .unsaved ≡ true) ↔ SomeUnsafe (pastBy by u cs)) × ((runBy by u cs .unsaved ≡ false) ↔ AllSafe (pastBy by u cs))

@@ -59,6 +59,7 @@ resetsAtRest by u (c ∷ cs) = (not (isReset c) || nothingWaits u) && resetsAtRe
 -- "the settings, power condition and its cause, idle count, stopped mark, unsaved mark and held deferred senses": the settings in the five records,
 -- with what the maker said of each condition. "What hosts are told halfway is not compared." Nor are slots and what is out: none waits in either
 -- run. Nor are the transition counts: "Demand 3 does not compare them." (document 02, request (i); a run in which they differ: WrongCounts · counts-differ).
+-- Nor is the edition: no call changes it (calls/Editions · edition-kept).
 pub record Compared : Type 0 where
   pub settings : List Record
   pub power : Power

@@ -11,9 +11,9 @@ use Rattle.words.specs.Codes.{codes}
 use Rattle.words.specs.Words.{same, wordAt}
 use Rattle.words.specs.Fields.{hasWords}
 use Rattle.asked.specs.Offers.{offered}
-use Rattle.commands.specs.Commands.{tickLine, epcLine, readLine, writeLine, resetLine, startStopLine, nextLine, answerLine, senseLine, logLine, transitionsLine}
+use Rattle.commands.specs.Commands.{tickLine, epcLine, readLine, writeLine, resetLine, startStopLine, nextLine, answerLine, senseLine, logLine, transitionsLine, newPageLine, makeLine}
 use Rattle.pairs.specs.Pairs.{faultsLine, recordLine}
-use Rattle.parts.specs.Parts.{conditionLine, stateLine, countsLine}
+use Rattle.parts.specs.Parts.{conditionLine, stateLine, countsLine, editionLine, makerLine}
 use Rattle.hosts.specs.Hosts.{slotLine, heldLine, outLine}
 use Rattle.words.specs.Lines.{lineIn}
 
@@ -41,8 +41,11 @@ callEntries =
     ∷ ("trans" reads transitionsLine)
     ∷ ("faults" reads faultsLine)
     ∷ ("record" reads recordLine)
+    ∷ ("page" reads newPageLine)
+    ∷ ("make" reads makeLine)
     ∷ []
 
+-- The lines of a `unit` block, and of a `make` block.
 abbrev pub partEntries : List Entry
 partEntries =
     ("c" reads conditionLine)
@@ -51,6 +54,8 @@ partEntries =
     ∷ ("held" reads heldLine)
     ∷ ("out" reads outLine)
     ∷ ("counts" reads countsLine)
+    ∷ ("ed" reads editionLine)
+    ∷ ("m" reads makerLine)
     ∷ []
 
 -- A word that stands alone.

@@ -1,10 +1,10 @@
-// A line of a script as what it asks for: a call, a part of a set-up block, or a word that stands alone.
+// A line of a script as what it asks for: a call, a line of a block, or a word that stands alone.
 ghost use mathlib.Core.List.{_++_};
 ghost use mathlib.Core.Path.{_≡_};
 ghost use Rattle.script.specs.Lines.{callEntries, partEntries, loneEntries, readerAt, readBy, lineOfWords, lineOfText};
 use asked::Line;
 
-// The names of calls are at places 0 to 12.
+// The names of calls are at places 0 to 14.
 fn call_at(line: &[u8], place: usize) -> Line
     ensures { λ r. ⌜ r ≡ readerAt callEntries place (now (line .entry)) ⌝ }
 {
@@ -22,6 +22,8 @@ fn call_at(line: &[u8], place: usize) -> Line
         10 => commands::transitions_line(line),
         11 => pairs::faults_line(line),
         12 => pairs::record_line(line),
+        13 => commands::new_page_line(line),
+        14 => commands::make_line(line),
         _ => Line::Wrong,
     }
 }
@@ -36,6 +38,8 @@ fn part_at(line: &[u8], place: usize) -> Line
         3 => hosts::held_line(line),
         4 => hosts::out_line(line),
         5 => parts::counts_line(line),
+        6 => parts::edition_line(line),
+        7 => parts::maker_line(line),
         _ => Line::Wrong,
     }
 }
@@ -61,12 +65,12 @@ fn read_lone(line: &[u8]) -> Line
     lone_at(line, place)
 }
 
-// What it asks for by a word of a set-up block, or by one that stands alone.
+// What it asks for by a word of a block, or by one that stands alone.
 fn read_in_block(line: &[u8]) -> Line
     ensures { λ r. ⌜ r ≡ readBy (partEntries ++ loneEntries) (now (line .entry)) ⌝ }
 {
-    let place = words::name_at(line, 0, b"c state slot held out counts");
-    if place < 6 {
+    let place = words::name_at(line, 0, b"c state slot held out counts ed m");
+    if place < 8 {
         part_at(line, place)
     } else {
         read_lone(line)
@@ -84,9 +88,9 @@ fn read_words(line: &[u8]) -> Line
     let place = words::name_at(
         line,
         0,
-        b"tick epc read write reset ssu next answer sense log trans faults record",
+        b"tick epc read write reset ssu next answer sense log trans faults record page make",
     );
-    if place < 13 {
+    if place < 15 {
         call_at(line, place)
     } else {
         read_in_block(line)

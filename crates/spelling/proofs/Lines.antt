@@ -2,6 +2,7 @@
 use mathlib.Core.Path.{_≡_, refl, sym, _∙_}
 use mathlib.Core.List.{List, [], _∷_, _++_}
 use Prim.Native.Nat.{ℕ, zero, suc, _-_, _<_, _≤_}
+use native.Mathlib.Numerals.{unary-clauses}
 use native.Mathlib.Omega.{arith}
 use lib.ListN.{length, getD, drop}
 use lib.Seq.{drop-cons}
@@ -9,7 +10,7 @@ use Rattle.unit.specs.declared.Unit.{Unit}
 use Rattle.words.specs.Codes.{codes}
 use Rattle.asked.specs.declared.Part.{Part}
 use Rattle.asked.specs.declared.Part.the-variants.{Stands, HasOut}
-use Rattle.asked.specs.Records.{settingsOf, stateOf, slotPart, heldPart, hostsOf, countsPart, partsOf}
+use Rattle.asked.specs.Records.{settingsOf, stateOf, slotPart, heldPart, hostsOf, countsPart, afterEdition, partsOf}
 use Rattle.digits.specs.Sheets.{Sheet, wrote, wroteAll, lineText}
 use Rattle.spelling.specs.Spelling.{partText, partLines, shown}
 use Rattle.rows.proofs.Values.{values, value-in, value-past, alone}
@@ -47,17 +48,21 @@ module _ (u : Unit) where
   pub out-line : (k : ℕ) → 8 ≤ k → outPart ≡ getD (hostsOf u) k outPart
   out-line k h = behind (values (slotPart u) 4 ++ values (heldPart u) 4) k outPart h
 
-  pub settings-line : (k : ℕ) → k < 5 → settingsOf u k ≡ getD (partsOf u) k (countsPart u)
+  pub settings-line : (k : ℕ) → k < 5 → settingsOf u k ≡ getD (afterEdition u) k (countsPart u)
   settings-line k h = sym (value-in (settingsOf u) 5 k afterSettings (countsPart u) h)
 
-  pub host-line : (k : ℕ) → 6 ≤ k → k < 15 → getD (hostsOf u) (k - 6) outPart ≡ getD (partsOf u) k (countsPart u)
+  pub host-line : (k : ℕ) → 6 ≤ k → k < 15 → getD (hostsOf u) (k - 6) outPart ≡ getD (afterEdition u) k (countsPart u)
   host-line k g h =
       let one : k - 5 ≡ suc (k - 6) = omega arith in
       in-first (hostsOf u) (countsPart u ∷ []) (k - 6) outPart (countsPart u) (omega arith)
       ∙ sym (value-past (settingsOf u) 5 k afterSettings (countsPart u) (omega arith) ∙ rw one)
 
-  pub counts-line : (k : ℕ) → 15 ≤ k → countsPart u ≡ getD (partsOf u) k (countsPart u)
+  pub counts-line : (k : ℕ) → 15 ≤ k → countsPart u ≡ getD (afterEdition u) k (countsPart u)
   counts-line k h = behind (values (settingsOf u) 5 ++ (Stands (stateOf u) ∷ hostsOf u)) k (countsPart u) h
+
+  pub other-line : (k : ℕ) → (k ≡ 0 → ⊥) → getD (afterEdition u) (k - 1) (countsPart u) ≡ getD (partsOf u) k (countsPart u)
+  other-line zero h = absurd (h refl)
+  other-line (suc k) h = simp unary-clauses refl
 
 -- ---- what is left to write
 
@@ -70,11 +75,11 @@ pub line-first : (u : Unit) (s : Sheet) → wroteAll (wrote s (lineText (codes "
 unfolding wroteAll shown
 line-first u s = refl
 
-pub line-more : (u : Unit) (k : ℕ) (s : Sheet) → k < 16
+pub line-more : (u : Unit) (k : ℕ) (s : Sheet) → k < 17
     → wroteAll (wrote s (lineText (partText (getD (partsOf u) k (countsPart u))))) (left u (suc k)) ≡ wroteAll s (left u k)
 unfolding wroteAll
 line-more u k s h = rw (drop-cons (partsOf u) k (countsPart u) h)
 
-pub line-last : (u : Unit) (k : ℕ) (s : Sheet) → k ≡ 16 → wroteAll s (left u k) ≡ wrote s (lineText (codes "end"))
+pub line-last : (u : Unit) (k : ℕ) (s : Sheet) → k ≡ 17 → wroteAll s (left u k) ≡ wrote s (lineText (codes "end"))
 unfolding wroteAll
 line-last u k s e = rw e

@@ -8,6 +8,8 @@ use Rattle.conditions.specs.declared.Cause.the-variants.{Timer, Command}
 use Rattle.conditions.specs.declared.Condition.{Condition}
 use Rattle.conditions.specs.declared.Power.{Power}
 use Rattle.conditions.specs.declared.Power.the-variants.{Active, Low}
+use Rattle.drive.specs.declared.Edition.{Edition}
+use Rattle.drive.specs.declared.Edition.the-variants.{Draft, Published}
 use Rattle.drive.specs.declared.Record.{Record}
 use Rattle.drive.specs.declared.Setting.{Setting}
 use Rattle.unit.specs.declared.Held.{Held}
@@ -26,11 +28,11 @@ use Rattle.digits.specs.Numerals.{pairs}
 use Rattle.digits.proofs.Lengths.{Within, whole, looser, _then_, either, hex, ended, Uncut, none, _and_}
 use Rattle.asked.specs.declared.Entries.{Entries}
 use Rattle.asked.specs.declared.Part.{Part}
-use Rattle.asked.specs.declared.Part.the-variants.{Settings, Stands, HasSlot, HasHeld, HasOut, HasCounts}
+use Rattle.asked.specs.declared.Part.the-variants.{IsOf, Settings, Stands, HasSlot, HasHeld, HasOut, HasCounts}
 use Rattle.asked.specs.declared.Tally.{Tally}
 use Rattle.asked.specs.Records.{partsOf}
 use Rattle.digits.specs.Pieces.{flagWord, numberWord}
-use Rattle.spelling.specs.Spelling.{letterWord, settingWords, recordWords, powerWords, targetWord, stageWords, slotWords, heldWords, outWords, entriesWords, tallyWords, partText, shown}
+use Rattle.spelling.specs.Spelling.{editionWord, letterWord, settingWords, recordWords, powerWords, targetWord, stageWords, slotWords, heldWords, outWords, entriesWords, tallyWords, partText, shown}
 
 -- ---- the pieces
 
@@ -39,6 +41,10 @@ flag b = either b (whole (codes " 1")) (whole (codes " 0"))
 
 number : (n : ℕ) → Within (numberWord n) 9
 number n = whole (codes " ") then hex n
+
+edition : (e : Edition) → Within (editionWord e) 2
+edition Draft = flag false
+edition Published = flag true
 
 letter : (c : Condition) → Within (letterWord c) 2
 letter c = whole (letterWord c)
@@ -88,6 +94,7 @@ tally t = entries (t .active) then entries (t .a) then entries (t .b) then entri
 
 part : (p : Part) → Within (partText p) 114
 unfolding partText
+part (IsOf e) = looser (omega arith) (whole (codes "ed") then edition e)
 part (Settings c r) = looser (omega arith) (whole (codes "c") then letter c then settings r)
 part (Stands s) =
     looser (omega arith)

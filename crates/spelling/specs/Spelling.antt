@@ -9,6 +9,8 @@ use Rattle.conditions.specs.declared.Condition.{Condition}
 use Rattle.conditions.specs.declared.Condition.the-variants.{IdleA, IdleB, IdleC, StandbyY, StandbyZ}
 use Rattle.conditions.specs.declared.Power.{Power}
 use Rattle.conditions.specs.declared.Power.the-variants.{Active, Low}
+use Rattle.drive.specs.declared.Edition.{Edition}
+use Rattle.drive.specs.declared.Edition.the-variants.{Draft, Published}
 use Rattle.drive.specs.declared.Record.{Record}
 use Rattle.drive.specs.declared.Setting.{Setting}
 use Rattle.senses.specs.declared.Sense.{Sense}
@@ -28,7 +30,7 @@ use Rattle.unit.specs.declared.Unit.{Unit}
 use Rattle.words.specs.Codes.{codes}
 use Rattle.asked.specs.declared.Entries.{Entries}
 use Rattle.asked.specs.declared.Part.{Part}
-use Rattle.asked.specs.declared.Part.the-variants.{Settings, Stands, HasSlot, HasHeld, HasOut, HasCounts}
+use Rattle.asked.specs.declared.Part.the-variants.{IsOf, Settings, Stands, HasSlot, HasHeld, HasOut, HasCounts}
 use Rattle.asked.specs.declared.State.{State}
 use Rattle.asked.specs.declared.Tally.{Tally}
 use Rattle.asked.specs.Records.{partsOf}
@@ -45,6 +47,11 @@ letterOf StandbyZ = code "Z"
 
 abbrev pub letterWord : Condition → List ℕ
 letterWord c = code " " ∷ letterOf c ∷ []
+
+-- ed E, "`ed 0` or `ed 1` (published)"
+abbrev pub editionWord : Edition → List ℕ
+editionWord Draft = flagWord false
+editionWord Published = flagWord true
 
 -- c X SUP SAV CHG REC DE DT SE ST CE CT
 abbrev pub settingWords : Setting → List ℕ
@@ -109,6 +116,7 @@ tallyWords t =
     ++ entriesWords (t .c) ++ entriesWords (t .y) ++ entriesWords (t .z)
 
 unfoldable pub partText : Part → List ℕ
+partText (IsOf e) = codes "ed" ++ editionWord e
 partText (Settings c r) = codes "c" ++ letterWord c ++ recordWords r
 partText (Stands s) = codes "state" ++ stateWords s
 partText (HasSlot host s) = codes "slot" ++ numberWord host ++ slotWords s

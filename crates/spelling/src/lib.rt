@@ -6,10 +6,10 @@ ghost use lib.ListN.{getD};
 ghost use Rattle.digits.specs.Sheets.{sheet, wroteAll};
 ghost use Rattle.digits.specs.Texts.{said, cut};
 ghost use Rattle.asked.specs.Records;
-ghost use Rattle.asked.specs.Records.{settingsOf, stateOf, entriesAt, tallyOf, countsPart, partsOf};
+ghost use Rattle.asked.specs.Records.{settingsOf, stateOf, entriesAt, tallyOf, countsPart, afterEdition, partsOf};
 ghost use Rattle.asked.specs.declared.Part.the-variants.{HasOut};
 ghost use Rattle.spelling.specs.Spelling;
-ghost use Rattle.spelling.specs.Spelling.{letterWord, settingWords, recordWords, causeWord, powerWords, stateWords, targetWord, stageWords, requestWords, slotWords, spacedText, heldWords, outWords, entriesWords, tallyWords, partText, shown};
+ghost use Rattle.spelling.specs.Spelling.{editionWord, letterWord, settingWords, recordWords, causeWord, powerWords, stateWords, targetWord, stageWords, requestWords, slotWords, spacedText, heldWords, outWords, entriesWords, tallyWords, partText, shown};
 use asked::Entries;
 use asked::Part;
 use asked::State;
@@ -18,6 +18,7 @@ use conditions::Cause;
 use conditions::Condition;
 use conditions::Power;
 use digits::Text;
+use drive::Edition;
 use drive::Record;
 use drive::Setting;
 use requests::Request;
@@ -101,9 +102,9 @@ fn counts_of(u: Unit) -> Part
     Part::HasCounts(tally_of(counts))
 }
 
-// The part that the block's line k sets, from 0.
-fn part_of(u: Unit, k: usize) -> Part
-    ensures { λ r. ⌜ r ≡ getD (partsOf u) k (countsPart u) ⌝ }
+// The parts that follow the edition, from 0.
+fn after_edition(u: Unit, k: usize) -> Part
+    ensures { λ r. ⌜ r ≡ getD (afterEdition u) k (countsPart u) ⌝ }
 {
     if k < 5 {
         return settings_of(u, k);
@@ -117,7 +118,27 @@ fn part_of(u: Unit, k: usize) -> Part
     counts_of(u)
 }
 
+// The part that the block's line k sets, from 0.
+fn part_of(u: Unit, k: usize) -> Part
+    ensures { λ r. ⌜ r ≡ getD (partsOf u) k (countsPart u) ⌝ }
+{
+    let edition = u.edition;
+    if k == 0 {
+        return Part::IsOf(edition);
+    }
+    after_edition(u, k - 1)
+}
+
 // ---- their lines
+
+fn spell_edition(t: Text, edition: Edition) -> Text
+    ensures { λ r. ⌜ said r ≡ cut (said t ++ editionWord edition) ⌝ }
+{
+    match edition {
+        Edition::Draft => digits::put_flag(t, false),
+        Edition::Published => digits::put_flag(t, true),
+    }
+}
 
 fn letter_of(c: Condition) -> u8
     ensures { λ r. ⌜ r ≡ Spelling.letterOf c ⌝ }
@@ -271,6 +292,7 @@ fn spell(p: Part) -> Text
     ensures { λ r. ⌜ said r ≡ cut (partText p) ⌝ }
 {
     match p {
+        Part::IsOf(edition) => spell_edition(digits::phrase(b"ed"), edition),
         Part::Settings(c, r) => spell_record(spell_letter(digits::phrase(b"c"), c), r),
         Part::Stands(s) => spell_state(digits::phrase(b"state"), s),
         Part::HasSlot(host, s) => spell_slot(digits::put_number(digits::phrase(b"slot"), host), s),
@@ -286,7 +308,7 @@ pub fn show(u: Unit, out: &mut [u8], at: usize) -> usize
 {
     let mut n = digits::put_line(digits::phrase(b"unit"), out, at);
     let mut k = 0;
-    while k < 16 {
+    while k < 17 {
         n = digits::put_line(spell(part_of(u, k)), out, n);
         k += 1;
     }

@@ -11,6 +11,7 @@ use lib.ListN.{length, getD, take, drop, length-drop, length-take}
 use lib.Seq.{take-all, take-add, take-suc, drop-drop}
 use Rattle.words.specs.Lines.{beforeFeed}
 use Rattle.digits.specs.Sheets.{joined}
+use Rattle.blocks.specs.Sessions.{isOpen}
 use Rattle.replies.specs.Lines.{response, okOrError}
 use Rattle.stream.specs.Streams.{Stream, answered, keepsByte, fed, fedAll, finished, emptied, bytesBetween}
 
@@ -111,7 +112,7 @@ only-adds s bs =
     ap (λ t. fedAll t bs) (sym whole) ∙ fed-behind (s .printed) (emptied s) bs
 
 pub finished-behind : (s : Stream) → s .printed ++ finished (emptied s) ≡ finished s
-finished-behind s = on (response (s .session) (s .kept) .session .is_open)
+finished-behind s = on (isOpen (response (s .session) (s .kept) .session .block))
   where
     answer : List ℕ
     answer = joined (response (s .session) (s .kept) .pieces)

@@ -6,7 +6,7 @@ use Prim.Native.Nat.{ℕ, _-_}
 use lib.Dec.{eqb}
 use lib.ListN.{drop, take}
 use Rattle.digits.specs.Sheets.{joined}
-use Rattle.blocks.specs.Sessions.{startSession}
+use Rattle.blocks.specs.Sessions.{startSession, isOpen}
 use Rattle.blocks.specs.declared.Session.{Session}
 use Rattle.replies.specs.Lines.{Response, response, okOrError}
 use Rattle.stream.specs.declared.Run.{Run}
@@ -37,7 +37,7 @@ fedAll s (b ∷ bs) = fedAll (fed s b) bs
 
 -- "the end of input inside a block prints one `error`".
 abbrev pub closedOff : Stream → List ℕ
-closedOff s = cond (s .session .is_open) (s .printed ++ joined (okOrError false)) (s .printed)
+closedOff s = cond (isOpen (s .session .block)) (s .printed ++ joined (okOrError false)) (s .printed)
 
 -- "a last line without LF counts".
 abbrev pub finished : Stream → List ℕ

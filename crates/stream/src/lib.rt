@@ -95,7 +95,9 @@ fn finish(r: Run, line: &[u8], out: &mut [u8]) -> usize
     ensures { λ n. ⌜ (take n (now (out .exit)) ≡ finished (streamOf r (now (line .entry)) (now (out .entry)))) × (n ≤ length (now (out .exit))) ⌝ }
 {
     let last = end_line(r, line, out);
-    if last.session.is_open {
+    let session = last.session;
+    let block = session.block;
+    if blocks::is_open(block) {
         return replies::put_ok(false, out, last.at);
     }
     last.at

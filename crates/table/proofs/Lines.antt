@@ -17,7 +17,7 @@ module _ (u : Unit) where
   counts = values (countAt u) 7 ++ []
 
   abbrev below : List (List ℕ)
-  below = values (belowAt u) 8 ++ counts
+  below = values (belowAt u) 9 ++ counts
 
   abbrev rows : List (List ℕ)
   rows = values (rowText (u .drive)) 6 ++ below
@@ -29,8 +29,8 @@ module _ (u : Unit) where
   past-rows : (k : ℕ) → 8 ≤ k → getD (texts u) k [] ≡ getD below (k - 8) []
   past-rows k h = rw (sub-add-eq k 2 6) (past-head k (omega arith) ∙ value-past (rowText (u .drive)) 6 (k - 2) below [] (omega arith))
 
-  past-below : (k : ℕ) → 16 ≤ k → getD (texts u) k [] ≡ getD counts (k - 16) []
-  past-below k h = rw (sub-add-eq k 8 8) (past-rows k (omega arith) ∙ value-past (belowAt u) 8 (k - 8) counts [] (omega arith))
+  past-below : (k : ℕ) → 17 ≤ k → getD (texts u) k [] ≡ getD counts (k - 17) []
+  past-below k h = rw (sub-add-eq k 8 9) (past-rows k (omega arith) ∙ value-past (belowAt u) 9 (k - 8) counts [] (omega arith))
 
   pub head-line : (k : ℕ) → k < 2 → getD (texts u) k [] ≡ headAt k
   unfolding texts
@@ -39,16 +39,16 @@ module _ (u : Unit) where
   pub row-line : (k : ℕ) → 2 ≤ k → k < 8 → getD (texts u) k [] ≡ rowText (u .drive) (k - 2)
   row-line k g h = past-head k g ∙ value-in (rowText (u .drive)) 6 (k - 2) below [] (omega arith)
 
-  pub below-line : (k : ℕ) → 8 ≤ k → k < 16 → getD (texts u) k [] ≡ belowAt u (k - 8)
-  below-line k g h = past-rows k g ∙ value-in (belowAt u) 8 (k - 8) counts [] (omega arith)
+  pub below-line : (k : ℕ) → 8 ≤ k → k < 17 → getD (texts u) k [] ≡ belowAt u (k - 8)
+  below-line k g h = past-rows k g ∙ value-in (belowAt u) 9 (k - 8) counts [] (omega arith)
 
-  pub count-line : (k : ℕ) → 16 ≤ k → k < 23 → getD (texts u) k [] ≡ countAt u (k - 16)
-  count-line k g h = past-below k g ∙ value-in (countAt u) 7 (k - 16) [] [] (omega arith)
+  pub count-line : (k : ℕ) → 17 ≤ k → k < 24 → getD (texts u) k [] ≡ countAt u (k - 17)
+  count-line k g h = past-below k g ∙ value-in (countAt u) 7 (k - 17) [] [] (omega arith)
 
   pub line-text : (k : ℕ) → getD (tableLines u) k (lineText []) ≡ lineText (getD (texts u) k [])
   unfolding tableLines
   line-text k = List·getD-map lineText (texts u) k []
 
-  pub line-count : length (tableLines u) ≡ 23
+  pub line-count : length (tableLines u) ≡ 24
   unfolding tableLines texts
   line-count = refl

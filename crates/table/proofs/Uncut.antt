@@ -9,6 +9,8 @@ use lib.ListN.{getD}
 use Rattle.conditions.specs.Conditions.{conditionAt, depth}
 use Rattle.drive.specs.Records.{unsupported}
 use Rattle.drive.specs.declared.Drive.{Drive}
+use Rattle.drive.specs.declared.Edition.{Edition}
+use Rattle.drive.specs.declared.Edition.the-variants.{Draft, Published}
 use Rattle.drive.specs.declared.Record.{Record}
 use Rattle.drive.specs.declared.Setting.{Setting}
 use Rattle.unit.specs.Units.{slotOf, heldOf}
@@ -27,7 +29,7 @@ use Rattle.words.specs.Codes.{codes}
 use Rattle.digits.specs.Numerals.{pairs}
 use Rattle.digits.proofs.Lengths.{Within, whole, looser, _then_, either, decimal, tenths, at-right, at-left, ended, none, each}
 use Rattle.table.specs.Rows.{yesText, secondsText, settingText, recordText, recoveryText, isRunning, leftText, recordRow, rowText}
-use Rattle.table.specs.Below.{flagText, outText, targetText, immedText, stageText, slotText, heldText, hostText}
+use Rattle.table.specs.Below.{editionText, flagText, outText, targetText, immedText, stageText, slotText, heldText, hostText}
 use Rattle.table.specs.Counts.{countHead, countText, countAt}
 use Rattle.table.specs.Table.{headText, ruleText, headAt, markAt, texts, tableLines}
 use Rattle.table.proofs.Rows.{mark, name, label, row-name}
@@ -65,6 +67,10 @@ row d (suc place) = looser (omega arith) (record-row d place (getD (d .records) 
 
 -- ---- a line below the rows
 
+edition : (e : Edition) → Within (editionText e) 28
+edition Draft = looser (omega arith) (whole (codes "edition      draft"))
+edition Published = whole (codes "edition      published ACS-2")
+
 flag : (b : Bool) → Within (flagText b) 3
 flag b = either b (whole (codes "yes")) (looser (omega arith) (whole (codes "no")))
 
@@ -100,10 +106,11 @@ head k = looser (omega arith) (either (eqb k 0) (whole headText) (whole ruleText
 
 below : (u : Unit) (k : ℕ) → Within (markAt u k) 127
 below u k =
-    either (eqb k 0) (looser (omega arith) (whole (codes "stopped      ") then flag (u .stopped)))
-    (either (eqb k 1) (looser (omega arith) (whole (codes "unsaved      ") then flag (u .unsaved)))
-    (either (eqb k 2) (looser (omega arith) (whole (codes "idle count   ") then tenths (u .drive .idle .0) then whole (codes " s")))
-    (looser (omega arith) (out (u .out)))))
+    either (eqb k 0) (looser (omega arith) (edition (u .edition)))
+    (either (eqb k 1) (looser (omega arith) (whole (codes "stopped      ") then flag (u .stopped)))
+    (either (eqb k 2) (looser (omega arith) (whole (codes "unsaved      ") then flag (u .unsaved)))
+    (either (eqb k 3) (looser (omega arith) (whole (codes "idle count   ") then tenths (u .drive .idle .0) then whole (codes " s")))
+    (looser (omega arith) (out (u .out))))))
 
 host : (u : Unit) (k : ℕ) → Within (hostText u k) 127
 host u k =
@@ -120,4 +127,4 @@ count u (suc row) = looser (omega arith) (at-left (looser (omega arith) (row-nam
 
 pub uncut : (u : Unit) → tableLines u ≡ map ended (texts u)
 unfolding tableLines texts
-uncut u = each 2 head (each 6 (row (u .drive)) (each 4 (below u) (each 4 (host u) (each 7 (count u) none)))) .lines
+uncut u = each 2 head (each 6 (row (u .drive)) (each 5 (below u) (each 4 (host u) (each 7 (count u) none)))) .lines

@@ -1,8 +1,11 @@
--- The power log for the eye: "then the marks, the idle count and each host's operation on lines of their own". Assumes nothing.
+-- The power log for the eye: "then the marks, the idle count and each host's operation on lines of their own", and above them the unit's edition.
+-- Assumes nothing.
 use mathlib.Core.Bool.{Bool, cond}
 use mathlib.Core.List.{List, [], _++_}
 use Prim.Native.Char.{code}
 use Prim.Native.Nat.{ℕ}
+use Rattle.drive.specs.declared.Edition.{Edition}
+use Rattle.drive.specs.declared.Edition.the-variants.{Draft, Published}
 use Rattle.senses.specs.declared.Sense.{Sense}
 use Rattle.requests.specs.Requests.{failureSense}
 use Rattle.unit.specs.Units.{slotOf, heldOf}
@@ -22,6 +25,10 @@ use Rattle.words.specs.Codes.{codes}
 use Rattle.digits.specs.Numerals.{decimalText, tenthsText}
 use Rattle.digits.specs.Pieces.{senseText}
 use Rattle.table.specs.Rows.{nameText}
+
+abbrev pub editionText : Edition → List ℕ
+editionText Draft = codes "edition      draft"
+editionText Published = codes "edition      published ACS-2"
 
 abbrev pub flagText : Bool → List ℕ
 flagText b = cond b (codes "yes") (codes "no")

@@ -1,4 +1,4 @@
-// The power log for the eye: a row a condition in falling power, then the marks, the idle count, each host's operation
+// The power log for the eye: a row a condition in falling power, then the unit's edition, the marks, the idle count, each host's operation
 // and how often the disk went where.
 ghost use mathlib.Core.List.{[], _++_};
 ghost use mathlib.Core.Path.{_≡_};
@@ -7,7 +7,7 @@ ghost use lib.ListN.{getD};
 ghost use Rattle.digits.specs.Sheets.{sheet, wroteAll};
 ghost use Rattle.digits.specs.Texts.{said, cut};
 ghost use Rattle.table.specs.Below;
-ghost use Rattle.table.specs.Below.{outText, targetText, stageText, requestText, slotText, senseHeldText, heldText, hostText};
+ghost use Rattle.table.specs.Below.{editionText, outText, targetText, stageText, requestText, slotText, senseHeldText, heldText, hostText};
 ghost use Rattle.table.specs.Counts.{countText, rowName, columnsText, countRow, countAt};
 ghost use Rattle.table.specs.Rows;
 ghost use Rattle.table.specs.Rows.{isRunning, nameText, yesText, secondsText, settingText, recordText, recoveryText, leftText, labelText, recordRow, activeRow, rowText};
@@ -16,6 +16,7 @@ ghost use Rattle.table.specs.Table.{belowAt, texts, tableLines};
 use conditions::Condition;
 use digits::Text;
 use drive::Drive;
+use drive::Edition;
 use drive::Record;
 use drive::Setting;
 use drive::Tenths;
@@ -158,6 +159,15 @@ fn row(d: Drive, k: usize) -> Text
 
 // ---- the lines below the rows
 
+fn edition_line(edition: Edition) -> Text
+    ensures { λ r. ⌜ said r ≡ cut (editionText edition) ⌝ }
+{
+    match edition {
+        Edition::Draft => digits::phrase(b"edition      draft"),
+        Edition::Published => digits::phrase(b"edition      published ACS-2"),
+    }
+}
+
 fn flag_line(name: &[u8], flag: bool) -> Text
     ensures { λ r. ⌜ said r ≡ cut (now (name .entry) ++ Below.flagText flag) ⌝ }
 {
@@ -186,11 +196,13 @@ fn out_line(out: Out) -> Text
 fn mark_line(u: Unit, k: usize) -> Text
     ensures { λ r. ⌜ said r ≡ cut (Table.markAt u k) ⌝ }
 {
+    let edition = u.edition;
     let out = u.out;
     match k {
-        0 => flag_line(b"stopped      ", u.stopped),
-        1 => flag_line(b"unsaved      ", u.unsaved),
-        2 => idle_line(u),
+        0 => edition_line(edition),
+        1 => flag_line(b"stopped      ", u.stopped),
+        2 => flag_line(b"unsaved      ", u.unsaved),
+        3 => idle_line(u),
         _ => out_line(out),
     }
 }
@@ -268,15 +280,15 @@ fn host_line(u: Unit, host: u32) -> Text
     put_held(operation, unit::held_of(held, host))
 }
 
-// A mark's line or a host's.
+// The edition's line, a mark's or a host's.
 fn below_line(u: Unit, k: usize) -> Text
-    requires { ⌜ k < 8 ⌝ }
+    requires { ⌜ k < 9 ⌝ }
     ensures { λ r. ⌜ said r ≡ cut (belowAt u k) ⌝ }
 {
-    if k < 4 {
+    if k < 5 {
         return mark_line(u, k);
     }
-    host_line(u, (k - 4) as u32)
+    host_line(u, (k - 5) as u32)
 }
 
 // ---- how often the disk went where
@@ -342,7 +354,7 @@ fn head_line(k: usize) -> Text
 
 // The line of that number, from 0.
 fn line_at(u: Unit, k: usize) -> Text
-    requires { ⌜ k < 23 ⌝ }
+    requires { ⌜ k < 24 ⌝ }
     ensures { λ r. ⌜ said r ≡ cut (getD (texts u) k []) ⌝ }
 {
     let d = u.drive;
@@ -352,10 +364,10 @@ fn line_at(u: Unit, k: usize) -> Text
     if k < 8 {
         return row(d, k - 2);
     }
-    if k < 16 {
+    if k < 17 {
         return below_line(u, k - 8);
     }
-    count_line(u, k - 16)
+    count_line(u, k - 17)
 }
 
 // Writes the table into `out` from `at` on, and answers the place after it.
@@ -364,7 +376,7 @@ pub fn put_table(u: Unit, out: &mut [u8], at: usize) -> usize
 {
     let mut n = at;
     let mut k = 0;
-    while k < 23 {
+    while k < 24 {
         n = digits::put_line(line_at(u, k), out, n);
         k += 1;
     }

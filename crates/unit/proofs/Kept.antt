@@ -15,7 +15,7 @@ rest-kept true u = refl
 rest-kept false u = refl
 
 pub slot-kept : (kept : Bool) (host : ℕ) (s : Slot) (u : Unit)
-    → unitOf (u .drive) (u .stopped) (u .unsaved) (cond kept (u .slots) (set (u .slots) host (record { slot = s }))) (u .held) (u .out)
+    → unitOf (u .edition) (u .drive) (u .stopped) (u .unsaved) (cond kept (u .slots) (set (u .slots) host (record { slot = s }))) (u .held) (u .out)
     ≡ cond kept u (withSlot host s u)
 slot-kept true host s u = refl
 slot-kept false host s u = refl
@@ -26,7 +26,8 @@ out-kept false next u = refl
 
 abbrev fewer : Bool → Unit → Unit
 fewer kept u =
-    unitOf (u .drive) (u .stopped) (u .unsaved) (cond kept (u .slots) (replicate 4 emptySlot)) (cond kept (u .held) (replicate 4 noneHeld)) (u .out)
+    unitOf (u .edition) (u .drive) (u .stopped) (u .unsaved) (cond kept (u .slots) (replicate 4 emptySlot)) (cond kept (u .held) (replicate 4 noneHeld))
+    (u .out)
 
 pub hosts-kept : (kept : Bool) (u : Unit) → cond kept (fewer kept u) (withOut NoneOut (fewer kept u)) ≡ cond kept u (withoutHosts u)
 hosts-kept true u = refl

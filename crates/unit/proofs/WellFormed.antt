@@ -4,8 +4,7 @@ use mathlib.Core.Path.{_≡_, refl, ap, sym, _∙_}
 use mathlib.Core.Bool.{Bool, true, false, _&&_, true≢false}
 use mathlib.Core.List.{List, [], _∷_, map}
 use mathlib.Core.Logic.{_↔_}
-use Prim.Native.Nat.{ℕ, zero, suc, _≤_}
-use native.Mathlib.Omega.{arith}
+use Prim.Native.Nat.{ℕ, zero, suc}
 use lib.Dec.{eqb}
 use lib.ListN.{length, getD, set, replicate, length-set, List·getD-map}
 use borrow.Author.Tests.{eqb-true, eq-eqb}
@@ -165,9 +164,3 @@ module _ (u : Unit) (fine : UnitFine u) where
   pub hosts-cleared : UnitFine (withoutHosts u)
   hosts-cleared =
       record { drive = fine .drive; slots = refl; held = refl; requests = each-request (u .drive .records) (replicate 4 emptySlot) refl; out = refl }
-
--- ---- the largest timer
-
--- It holds the 16 bits that a subcommand sets.
-pub timer-fits : (u : Unit) → 65535 ≤ largestOf u
-timer-fits u = omega arith

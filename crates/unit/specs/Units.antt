@@ -5,9 +5,10 @@ use Prim.Native.Nat.{ℕ}
 use lib.Dec.{eqb}
 use lib.ListN.{length, getD, set, replicate}
 use Rattle.rows.specs.Rows.{everyAt}
-use Rattle.drive.specs.Records.{largest, unsupported, driveWellFormed}
+use Rattle.drive.specs.Records.{largestTimer, unsupported, driveWellFormed}
 use Rattle.conditions.specs.declared.Power.{Power}
 use Rattle.drive.specs.Drives.{entered, restarted, made, makerOf}
+use Rattle.drive.specs.declared.Edition.{Edition}
 use Rattle.drive.specs.declared.Record.{Record}
 use Rattle.drive.specs.declared.Drive.{Drive}
 use Rattle.drive.specs.declared.Made.{Made}
@@ -57,9 +58,9 @@ isOutFor host (OutFor h) = eqb h host
 
 -- ---- well formed
 
--- The largest timer and the largest idle count of a unit.
+-- The largest timer and the largest idle count of a unit: its edition's.
 abbrev pub largestOf : Unit → ℕ
-largestOf u = largest
+largestOf u = largestTimer (u .edition)
 
 abbrev pub slotWellFormed : List Record → Slot → Bool
 slotWellFormed rs Empty = true
@@ -87,31 +88,35 @@ wellFormed u =
 
 -- ---- the builders: no other literal of a unit
 
-abbrev pub unitOf : Drive → Bool → Bool → List HostSlot → List HostHeld → Out → Unit
-unitOf d stopped unsaved slots helds out =
-    record { drive = d; stopped = stopped; unsaved = unsaved; slots = slots; held = helds; out = out }
+abbrev pub unitOf : Edition → Drive → Bool → Bool → List HostSlot → List HostHeld → Out → Unit
+unitOf e d stopped unsaved slots helds out =
+    record { edition = e; drive = d; stopped = stopped; unsaved = unsaved; slots = slots; held = helds; out = out }
+
+-- For a record that is set up from parts, and for what is said of two editions: no call changes the edition.
+abbrev pub withEdition : Edition → Unit → Unit
+withEdition e u = unitOf e (u .drive) (u .stopped) (u .unsaved) (u .slots) (u .held) (u .out)
 
 abbrev pub withDrive : Drive → Unit → Unit
-withDrive d u = unitOf d (u .stopped) (u .unsaved) (u .slots) (u .held) (u .out)
+withDrive d u = unitOf (u .edition) d (u .stopped) (u .unsaved) (u .slots) (u .held) (u .out)
 
 abbrev pub withPower : Power → Unit → Unit
 withPower p u = withDrive (entered p (u .drive)) u
 
 abbrev pub withMarks : Bool → Bool → Unit → Unit
-withMarks stopped unsaved u = unitOf (u .drive) stopped unsaved (u .slots) (u .held) (u .out)
+withMarks stopped unsaved u = unitOf (u .edition) (u .drive) stopped unsaved (u .slots) (u .held) (u .out)
 
 abbrev pub withSlot : ℕ → Slot → Unit → Unit
-withSlot host s u = unitOf (u .drive) (u .stopped) (u .unsaved) (set (u .slots) host (record { slot = s })) (u .held) (u .out)
+withSlot host s u = unitOf (u .edition) (u .drive) (u .stopped) (u .unsaved) (set (u .slots) host (record { slot = s })) (u .held) (u .out)
 
 abbrev pub withHeld : ℕ → Held → Unit → Unit
-withHeld host h u = unitOf (u .drive) (u .stopped) (u .unsaved) (u .slots) (set (u .held) host (record { held = h })) (u .out)
+withHeld host h u = unitOf (u .edition) (u .drive) (u .stopped) (u .unsaved) (u .slots) (set (u .held) host (record { held = h })) (u .out)
 
 abbrev pub withOut : Out → Unit → Unit
-withOut o u = unitOf (u .drive) (u .stopped) (u .unsaved) (u .slots) (u .held) o
+withOut o u = unitOf (u .edition) (u .drive) (u .stopped) (u .unsaved) (u .slots) (u .held) o
 
 -- "no operation, command out, deferred sense": what every reset takes.
 abbrev pub withoutHosts : Unit → Unit
-withoutHosts u = unitOf (u .drive) (u .stopped) (u .unsaved) (replicate 4 emptySlot) (replicate 4 noneHeld) NoneOut
+withoutHosts u = unitOf (u .edition) (u .drive) (u .stopped) (u .unsaved) (replicate 4 emptySlot) (replicate 4 noneHeld) NoneOut
 
 -- "sets the idle count to 0".
 abbrev pub rested : Unit → Unit
@@ -119,10 +124,11 @@ rested u = withDrive (restarted (u .drive)) u
 
 -- ---- a new unit
 
--- "At manufacture current, saved and default agree": Active, idle count 0, no mark, nothing waiting, held or out.
-abbrev pub madeUnit : List Made → Unit
-madeUnit ms = unitOf (made ms) false false (replicate 4 emptySlot) (replicate 4 noneHeld) NoneOut
+-- "At manufacture current, saved and default agree": Active, idle count 0, no mark, nothing waiting, held or out. Request (vi): "A unit is of one
+-- edition, fixed at manufacture".
+abbrev pub madeUnit : Edition → List Made → Unit
+madeUnit e ms = unitOf e (made ms) false false (replicate 4 emptySlot) (replicate 4 noneHeld) NoneOut
 
--- A unit that supports nothing.
-abbrev pub blank : Unit
-blank = madeUnit (replicate 5 (makerOf unsupported))
+-- The unit of an edition that supports nothing.
+abbrev pub blank : Edition → Unit
+blank e = madeUnit e (replicate 5 (makerOf unsupported))

@@ -4,6 +4,7 @@ ghost use mathlib.Core.Path.{_≡_};
 ghost use Rattle.unit.specs.Units.{isOut, isOutFor, madeUnit, blank, slotOf, isWaiting, heldOf, slotWellFormed, hostsWellFormed, outWellFormed, wellFormed, largestOf, withDrive, withMarks, withSlot, withHeld, withOut, withoutHosts, rested, emptySlot, noneHeld};
 ghost use lib.ListN.{set, replicate};
 use drive::Drive;
+use drive::Edition;
 use drive::Made;
 use drive::Millis;
 use drive::Record;
@@ -37,8 +38,10 @@ pub enum Out {
     OutFor(u32),
 }
 
+// The edition is "fixed at manufacture" (document 02, request (vi)): no call changes it.
 pub struct Unit {
     pub drive: Drive,
+    pub edition: Edition,
     pub stopped: bool,
     pub unsaved: bool,
     pub slots: [HostSlot; 4],
@@ -97,11 +100,12 @@ pub fn is_out_for(host: u32, out: Out) -> bool
     }
 }
 
-// The largest timer and the largest idle count of a unit.
+// The largest timer and the largest idle count of a unit: its edition's.
 pub fn largest_of(u: Unit) -> Tenths
     ensures { λ r. ⌜ r .0 ≡ largestOf u ⌝ }
 {
-    drive::largest_timer()
+    let edition = u.edition;
+    drive::largest_timer(edition)
 }
 
 fn slot_ok(records: [Record; 5], s: Slot) -> bool
@@ -238,10 +242,12 @@ pub fn with_slot_unless(u: Unit, kept: bool, host: u32, s: Slot) -> Unit
 pub fn with_out(u: Unit, out: Out) -> Unit
     ensures { λ r. ⌜ r ≡ withOut out u ⌝ }
 {
+    let edition = u.edition;
     let d = u.drive;
     let slots = u.slots;
     let held = u.held;
     Unit {
+        edition,
         drive: d,
         stopped: u.stopped,
         unsaved: u.unsaved,
@@ -318,8 +324,8 @@ pub fn rest(u: Unit) -> Unit
     with_drive(u, drive::restart(d))
 }
 
-pub fn made_unit(made: [Made; 5]) -> Unit
-    ensures { λ u. ⌜ u ≡ madeUnit made ⌝ }
+pub fn made_unit(edition: Edition, made: [Made; 5]) -> Unit
+    ensures { λ u. ⌜ u ≡ madeUnit edition made ⌝ }
 {
     let d = drive::manufacture(made);
     let slots = [HostSlot { slot: Slot::Empty }; 4];
@@ -327,6 +333,7 @@ pub fn made_unit(made: [Made; 5]) -> Unit
         held: Held::Nothing,
     }; 4];
     Unit {
+        edition,
         drive: d,
         stopped: false,
         unsaved: false,
@@ -336,9 +343,9 @@ pub fn made_unit(made: [Made; 5]) -> Unit
     }
 }
 
-// A unit that supports nothing: what stands beside manufacture's refusal.
-pub fn blank_unit() -> Unit
-    ensures { λ u. ⌜ u ≡ blank ⌝ }
+// The unit of an edition that supports nothing: what stands beside manufacture's refusal.
+pub fn blank_unit(edition: Edition) -> Unit
+    ensures { λ u. ⌜ u ≡ blank edition ⌝ }
 {
     let nothing = Made {
         supported: false,
@@ -350,5 +357,5 @@ pub fn blank_unit() -> Unit
             timer: Tenths(0),
         },
     };
-    made_unit([nothing; 5])
+    made_unit(edition, [nothing; 5])
 }

@@ -61,11 +61,17 @@ log-requires-2 c κs = tt
 enum-known-call-8 : tie.Need-enum-known-call-8
 enum-known-call-8 c = c .match .keys8
 
-page-faults-requires : tie.Need-page-faults-requires
-page-faults-requires c κs = tt
+log-requires-3 : tie.Need-log-requires-3
+log-requires-3 c κs = tt
 
 enum-known-call-9 : tie.Need-enum-known-call-9
 enum-known-call-9 c = c .match .keys9
+
+page-faults-requires : tie.Need-page-faults-requires
+page-faults-requires c κs = tt
+
+enum-known-call-10 : tie.Need-enum-known-call-10
+enum-known-call-10 c = c .match .keys10
 
 page-record-requires : tie.Need-page-record-requires
 page-record-requires c κs = tt
@@ -138,22 +144,31 @@ returns-7 c =
     rw (put .before .before .before .call7 .given .1) (put .log2 .ensures)
 
 same-length-8 : tie.Need-same-length-8
-same-length-8 c = c .before .before .page-faults .kept .1 .1 .1 .0
+same-length-8 c = c .before .before .log3 .kept .1 .1 .1 .0
 
 returns-8 : tie.Need-returns-8
 unfolding callResponse
 returns-8 c =
     let put = c .before .before in
-    rw (put .before .before .before .call8 .given .1) (put .page-faults .ensures)
+    rw (put .before .before .before .call8 .given .1) (put .log3 .ensures)
 
 same-length-9 : tie.Need-same-length-9
-same-length-9 c = c .before .before .page-record .kept .1 .1 .1 .1 .0
+same-length-9 c = c .before .before .page-faults .kept .1 .1 .1 .0
 
 returns-9 : tie.Need-returns-9
 unfolding callResponse
 returns-9 c =
     let put = c .before .before in
-    rw (put .before .before .before .call9 .given .1) (put .page-record .ensures)
+    rw (put .before .before .before .call9 .given .1) (put .page-faults .ensures)
+
+same-length-10 : tie.Need-same-length-10
+same-length-10 c = c .before .before .page-record .kept .1 .1 .1 .1 .0
+
+returns-10 : tie.Need-returns-10
+unfolding callResponse
+returns-10 c =
+    let put = c .before .before in
+    rw (put .before .before .before .call10 .given .1) (put .page-record .ensures)
 
 pub make-spec : {M : Type 1} → statement M
 make-spec =
@@ -178,8 +193,10 @@ make-spec =
     enum-known-call-7
     log-requires-2
     enum-known-call-8
-    page-faults-requires
+    log-requires-3
     enum-known-call-9
+    page-faults-requires
+    enum-known-call-10
     page-record-requires
     same-length
     returns
@@ -198,4 +215,6 @@ make-spec =
     same-length-8
     returns-8
     same-length-9
-    returns-9)
+    returns-9
+    same-length-10
+    returns-10)

@@ -1,4 +1,4 @@
--- The draft is the zero unit.
+-- The planned is the zero unit.
 use Rattle.blocks.proofs.open_block.Statement.{statement}
 use Rattle.blocks.proofs.open_block.Tie as tie
 

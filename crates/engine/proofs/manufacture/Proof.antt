@@ -29,7 +29,8 @@ unfolding manufactureOutcome
 returns c =
     let v = c .before .before .before in
     let start = v .before .before in
-    c .settle .ensures blank (madeUnit (start .before .args .made))
+    let asked = start .before .args in
+    c .settle .ensures (blank (asked .edition)) (madeUnit (asked .edition) (asked .made))
     (rw (c .before .blank-if .ensures, c .before .before .is-given .ensures, start .made-unit .ensures))
     ∙ rw (v .record-verdict .ensures, v .before .unit-ok .ensures, start .made-unit .ensures)
 

@@ -22,14 +22,14 @@ unfit-requires c κs = search needs
 returns : tie.Need-returns
 returns c =
     let a = c .before .before in
-    rw (← in-turn (a .before .args .q) (a .before .args .records), ← a .sub-of .ensures, ← c .before .misread .ensures, c .if1 .taken)
+    rw (← in-turn (a .before .args .e) (a .before .args .q) (a .before .args .records), ← a .sub-of .ensures, ← c .before .misread .ensures, c .if1 .taken)
 
 returns-2 : tie.Need-returns-2
 returns-2 c =
     let m = c .before .before .before .before in
     let a = m .before in
     rw (
-      ← in-turn (a .before .args .q) (a .before .args .records),
+      ← in-turn (a .before .args .e) (a .before .args .q) (a .before .args .records),
       ← a .sub-of .ensures,
       ← m .misread .ensures,
       c .before .before .before .if1 .left,

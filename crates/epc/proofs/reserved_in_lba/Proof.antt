@@ -13,6 +13,9 @@ enum-told-2 c = search needs
 enum-told-3 : tie.Need-enum-told-3
 enum-told-3 c = search needs
 
+reserved-below-requires : tie.Need-reserved-below-requires
+reserved-below-requires c κs = search needs
+
 enum-told-4 : tie.Need-enum-told-4
 enum-told-4 c = search needs
 
@@ -26,7 +29,7 @@ returns-2 : tie.Need-returns-2
 returns-2 c = rw (c .enum-told2 .given .1, shr-mod {n = c .before .before .args .lba} 28 4 (search needs))
 
 returns-3 : tie.Need-returns-3
-returns-3 c = rw (c .enum-told3 .given .1, shr-mod {n = c .before .before .args .lba} 8 24 (search needs))
+returns-3 c = rw (c .before .enum-told3 .given .1, c .reserved-below .ensures, shr-mod {n = c .before .before .before .args .lba} 8 24 (search needs))
 
 returns-4 : tie.Need-returns-4
 returns-4 c = rw (c .enum-told4 .given .1, shr-mod {n = c .before .before .args .lba} 26 6 (search needs))
@@ -41,6 +44,7 @@ reserved-in-lba-spec =
     enum-told
     enum-told-2
     enum-told-3
+    reserved-below-requires
     enum-told-4
     enum-told-5
     returns

@@ -5,7 +5,7 @@ use native.Mathlib.Omega.{arith}
 use borrow.Author.Needs.{needs}
 use lib.ListN.{length, take}
 use lib.Seq.{take-all}
-use Rattle.pages.specs.Logs.{descriptors, logWords, logBytes}
+use Rattle.pages.specs.Logs.{loggedWords, logWords, logBytes}
 use Rattle.pages.proofs.Page.{first-length, page-more}
 use Rattle.pages.proofs.log_page.Statement.{statement}
 use Rattle.pages.proofs.log_page.Tie as tie
@@ -17,7 +17,7 @@ abbrev μ-loop : tie.MeasureT-loop
 μ-loop records page₀ i₀ page i = 5 - i
 
 loop-holds : tie.Need-loop-holds Inv-loop μ-loop
-unfolding logBytes logWords descriptors
+unfolding logBytes logWords loggedWords
 loop-holds c = (omega arith, refl)
 
 mul-named-bytes : tie.Need-mul-named-bytes Inv-loop μ-loop

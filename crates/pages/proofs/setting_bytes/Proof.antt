@@ -6,6 +6,9 @@ use Rattle.pages.proofs.setting_bytes.Tie as tie
 flag-at-requires : tie.Need-flag-at-requires
 flag-at-requires c κs = search needs
 
+timer-word-requires : tie.Need-timer-word-requires
+timer-word-requires c κs = search needs
+
 low-requires : tie.Need-low-requires
 low-requires c κs = search needs
 
@@ -25,10 +28,11 @@ returns c =
       c .before .low2 .ensures,
       c .before .before .high .ensures,
       c .before .before .before .low .ensures,
-      c .before .before .before .before .flag-at .ensures .0,
+      c .before .before .before .before .timer-word .ensures,
+      c .before .before .before .before .before .flag-at .ensures .0,
     )
 
 pub setting-bytes-spec : {M : Type 1} → statement M
 setting-bytes-spec =
     tie.close
-    (tie.spec flag-at-requires low-requires high-requires low-requires-2 high-requires-2 returns)
+    (tie.spec flag-at-requires timer-word-requires low-requires high-requires low-requires-2 high-requires-2 returns)

@@ -1,19 +1,10 @@
--- The line's parts in the callees' words.
+-- What manufacture would make, with the two settings after it, in the callees' words.
 use native.Mathlib.Omega.{arith}
 use Rattle.parts.proofs.record_in.Statement.{statement}
 use Rattle.parts.proofs.record_in.Tie as tie
 
-flag-at-requires : tie.Need-flag-at-requires
-flag-at-requires c κs = tt
-
-flag-at-requires-2 : tie.Need-flag-at-requires-2
-flag-at-requires-2 c κs = tt
-
-flag-at-requires-3 : tie.Need-flag-at-requires-3
-flag-at-requires-3 c κs = tt
-
-number-at-requires : tie.Need-number-at-requires
-number-at-requires c κs = tt
+made-in-requires : tie.Need-made-in-requires
+made-in-requires c κs = tt
 
 setting-at-requires : tie.Need-setting-at-requires
 setting-at-requires c κs = omega arith
@@ -21,27 +12,14 @@ setting-at-requires c κs = omega arith
 setting-at-requires-2 : tie.Need-setting-at-requires-2
 setting-at-requires-2 c κs = omega arith
 
-setting-at-requires-3 : tie.Need-setting-at-requires-3
-setting-at-requires-3 c κs = omega arith
+with-settings-requires : tie.Need-with-settings-requires
+with-settings-requires c κs = tt
 
 returns : tie.Need-returns
 returns c =
-    let read = c .before .before .before .before .before in
-    let settings = read .before .before .before .before .before in
-    let recovery = settings .before .before .before in
-    let flags = recovery .before in
-    rw (settings .setting-at3 .ensures, settings .before .setting-at2 .ensures, settings .before .before .setting-at .ensures)
-    (rw (recovery .number-at .ensures, flags .flag-at3 .ensures, flags .before .flag-at2 .ensures, flags .before .before .flag-at .ensures))
+    let copied = c .before .before .before .before in
+    let settings = copied .before .before .before in
+    rw (c .with-settings .ensures, settings .setting-at2 .ensures, settings .before .setting-at .ensures, settings .before .before .made-in .ensures)
 
 pub record-in-spec : {M : Type 1} → statement M
-record-in-spec =
-    tie.close
-    (tie.spec
-    flag-at-requires
-    flag-at-requires-2
-    flag-at-requires-3
-    number-at-requires
-    setting-at-requires
-    setting-at-requires-2
-    setting-at-requires-3
-    returns)
+record-in-spec = tie.close (tie.spec made-in-requires setting-at-requires setting-at-requires-2 with-settings-requires returns)

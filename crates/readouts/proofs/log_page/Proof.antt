@@ -2,6 +2,7 @@
 use native.Mathlib.Omega.{arith}
 use denote.Ref.{now}
 use Rattle.pages.specs.Logs.{logBytes}
+use Rattle.refusals.specs.Verdicts.{rowsOfRecord}
 use Rattle.readouts.specs.Readouts.{logOutcome}
 use Rattle.readouts.proofs.Pages.{page-fits, page-fills, page-refuses}
 use borrow.Author.Needs.{needs}
@@ -28,7 +29,8 @@ copy-in-requires c κs =
     let told = c .before .before .before .before in
     let v = told .before .before in
     let start = v .before .before .before .args in
-    let full = page-fits 512 (start .u) (now (start .buffer)) _ _ (v .before .unit-ok .ensures, v .page-verdict .ensures) (told .enum-told .given .1) in
+    let full = page-fits 512 rowsOfRecord (start .u) (now (start .buffer)) _ _ (v .before .unit-ok .ensures, v .page-verdict .ensures)
+    (told .enum-told .given .1) in
     omega arith
 
 enum-known-v : tie.Need-enum-known-v
@@ -44,7 +46,8 @@ returns c =
     let told = page .before .before in
     let v = told .before .before in
     let start = v .before .before .before .args in
-    page-fills 512 (start .u) (logBytes (start .u .drive .records)) (now (start .buffer)) _ _ (v .before .unit-ok .ensures, v .page-verdict .ensures)
+    page-fills 512 rowsOfRecord (start .u) (logBytes (start .u .drive .records)) (now (start .buffer)) _ _
+    (v .before .unit-ok .ensures, v .page-verdict .ensures)
     (told .enum-told .given .1) (page .log-page .result) _ (page .log-page .ensures) (omega (arith, page .log-page .ok)) (c .before .before .copy-in .ensures)
 
 returns-2 : tie.Need-returns-2
@@ -52,7 +55,8 @@ unfolding logOutcome
 returns-2 c =
     let v = c .before .before .before in
     let start = v .before .before .before .args in
-    page-refuses 512 (start .u) (logBytes (start .u .drive .records)) (now (start .buffer)) _ _ (v .before .unit-ok .ensures, v .page-verdict .ensures) _
+    page-refuses 512 rowsOfRecord (start .u) (logBytes (start .u .drive .records)) (now (start .buffer)) _ _
+    (v .before .unit-ok .ensures, v .page-verdict .ensures) _
     (c .before .v .given .1)
 
 pub log-page-spec : {M : Type 1} → statement M

@@ -3,6 +3,7 @@ use mathlib.Core.Path.{ap, _∙_}
 use native.Mathlib.Omega.{arith}
 use denote.Ref.{now}
 use Rattle.transitions.specs.Page.{transitionBytes}
+use Rattle.refusals.specs.Verdicts.{rowsOfRecord}
 use Rattle.readouts.specs.Readouts.{countsHanded, transitionsOutcome}
 use Rattle.readouts.proofs.Pages.{page-fits, page-fills, page-refuses}
 use borrow.Author.Needs.{needs}
@@ -32,7 +33,8 @@ copy-in-requires c κs =
     let told = c .before .before .before .before in
     let v = told .before .before in
     let start = v .before .before .before .args in
-    let full = page-fits 52 (start .u) (now (start .buffer)) _ _ (v .before .unit-ok .ensures, v .page-verdict .ensures) (told .enum-told .given .1) in
+    let full = page-fits 52 rowsOfRecord (start .u) (now (start .buffer)) _ _ (v .before .unit-ok .ensures, v .page-verdict .ensures)
+    (told .enum-told .given .1) in
     omega arith
 
 enum-known-v : tie.Need-enum-known-v
@@ -48,7 +50,8 @@ returns c =
     let told = page .before .before in
     let v = told .before .before in
     let start = v .before .before .before .args in
-    page-fills 52 (start .u) (transitionBytes (countsHanded (start .u))) (now (start .buffer)) _ _ (v .before .unit-ok .ensures, v .page-verdict .ensures)
+    page-fills 52 rowsOfRecord (start .u) (transitionBytes (countsHanded (start .u))) (now (start .buffer)) _ _
+    (v .before .unit-ok .ensures, v .page-verdict .ensures)
     (told .enum-told .given .1) (page .page-of .result) _ (page .page-of .ensures ∙ ap transitionBytes (page .before .transition-counts .ensures))
     (omega (arith, page .page-of .ok)) (c .before .before .copy-in .ensures)
 
@@ -57,7 +60,8 @@ unfolding transitionsOutcome
 returns-2 c =
     let v = c .before .before .before in
     let start = v .before .before .before .args in
-    page-refuses 52 (start .u) (transitionBytes (countsHanded (start .u))) (now (start .buffer)) _ _ (v .before .unit-ok .ensures, v .page-verdict .ensures) _
+    page-refuses 52 rowsOfRecord (start .u) (transitionBytes (countsHanded (start .u))) (now (start .buffer)) _ _
+    (v .before .unit-ok .ensures, v .page-verdict .ensures) _
     (c .before .v .given .1)
 
 pub transitions-page-spec : {M : Type 1} → statement M

@@ -21,29 +21,32 @@ enum-told-5 c = search needs
 enum-told-6 : tie.Need-enum-told-6
 enum-told-6 c = search needs
 
-with-sense-requires : tie.Need-with-sense-requires
-with-sense-requires c κs = search needs
-
 enum-told-7 : tie.Need-enum-told-7
 enum-told-7 c = search needs
 
-with-sense-requires-2 : tie.Need-with-sense-requires-2
-with-sense-requires-2 c κs = search needs
+with-sense-requires : tie.Need-with-sense-requires
+with-sense-requires c κs = search needs
 
 enum-told-8 : tie.Need-enum-told-8
 enum-told-8 c = search needs
 
-with-sense-requires-3 : tie.Need-with-sense-requires-3
-with-sense-requires-3 c κs = search needs
+with-sense-requires-2 : tie.Need-with-sense-requires-2
+with-sense-requires-2 c κs = search needs
 
 enum-told-9 : tie.Need-enum-told-9
 enum-told-9 c = search needs
 
-with-sense-requires-4 : tie.Need-with-sense-requires-4
-with-sense-requires-4 c κs = search needs
+with-sense-requires-3 : tie.Need-with-sense-requires-3
+with-sense-requires-3 c κs = search needs
 
 enum-told-10 : tie.Need-enum-told-10
 enum-told-10 c = search needs
+
+with-sense-requires-4 : tie.Need-with-sense-requires-4
+with-sense-requires-4 c κs = search needs
+
+enum-told-11 : tie.Need-enum-told-11
+enum-told-11 c = search needs
 
 returns : tie.Need-returns
 returns c = search needs
@@ -61,19 +64,22 @@ returns-5 : tie.Need-returns-5
 returns-5 c = search needs
 
 returns-6 : tie.Need-returns-6
-returns-6 c = rw (c .before .enum-told6 .given .1, c .with-sense .ensures)
+returns-6 c = search needs
 
 returns-7 : tie.Need-returns-7
-returns-7 c = rw (c .before .enum-told7 .given .1, c .with-sense2 .ensures)
+returns-7 c = rw (c .before .enum-told7 .given .1, c .with-sense .ensures)
 
 returns-8 : tie.Need-returns-8
-returns-8 c = rw (c .before .enum-told8 .given .1, c .with-sense3 .ensures)
+returns-8 c = rw (c .before .enum-told8 .given .1, c .with-sense2 .ensures)
 
 returns-9 : tie.Need-returns-9
-returns-9 c = rw (c .before .enum-told9 .given .1, c .with-sense4 .ensures)
+returns-9 c = rw (c .before .enum-told9 .given .1, c .with-sense3 .ensures)
 
 returns-10 : tie.Need-returns-10
-returns-10 c = search needs
+returns-10 c = rw (c .before .enum-told10 .given .1, c .with-sense4 .ensures)
+
+returns-11 : tie.Need-returns-11
+returns-11 c = search needs
 
 pub sense-of-spec : {M : Type 1} → statement M
 sense-of-spec =
@@ -85,14 +91,15 @@ sense-of-spec =
     enum-told-4
     enum-told-5
     enum-told-6
-    with-sense-requires
     enum-told-7
-    with-sense-requires-2
+    with-sense-requires
     enum-told-8
-    with-sense-requires-3
+    with-sense-requires-2
     enum-told-9
-    with-sense-requires-4
+    with-sense-requires-3
     enum-told-10
+    with-sense-requires-4
+    enum-told-11
     returns
     returns-2
     returns-3
@@ -102,4 +109,5 @@ sense-of-spec =
     returns-7
     returns-8
     returns-9
-    returns-10)
+    returns-10
+    returns-11)

@@ -8,11 +8,8 @@ use Rattle.replies.proofs.in_block.Tie as tie
 is-end-requires : tie.Need-is-end-requires
 is-end-requires c κs = tt
 
-close-block-requires : tie.Need-close-block-requires
-close-block-requires c κs = tt
-
-put-ok-requires : tie.Need-put-ok-requires
-put-ok-requires c κs = tt
+end-block-requires : tie.Need-end-block-requires
+end-block-requires c κs = tt
 
 same-length : tie.Need-same-length
 same-length c = search needs
@@ -20,27 +17,25 @@ same-length c = search needs
 returns : tie.Need-returns
 returns c =
     let a = c .before .before in
-    let close = a .before .before in
-    let ends = sym (close .before .before .is-end .ensures) ∙ close .before .if1 .taken in
-    (rw (ends, close .close-block .ensures), rw ends (a .put-ok .ensures))
+    let ends = sym (a .before .before .before .is-end .ensures) ∙ a .before .before .if1 .taken in
+    rw ends (a .end-block .ensures)
 
-draft-line-requires : tie.Need-draft-line-requires
-draft-line-requires c κs = tt
+block-line-requires : tie.Need-block-line-requires
+block-line-requires c κs = tt
 
 returns-2 : tie.Need-returns-2
 unfolding wroteAll
 returns-2 c =
     let goes-on = sym (c .before .before .is-end .ensures) ∙ c .before .if1 .left in
-    (rw (goes-on, c .draft-line .ensures), rw goes-on)
+    (rw (goes-on, c .block-line .ensures), rw goes-on)
 
 pub in-block-spec : {M : Type 1} → statement M
 in-block-spec =
     tie.close
     (tie.spec
     is-end-requires
-    close-block-requires
-    put-ok-requires
+    end-block-requires
     same-length
     returns
-    draft-line-requires
+    block-line-requires
     returns-2)

@@ -44,6 +44,12 @@ faults-line-requires c κs = tt
 record-line-requires : tie.Need-record-line-requires
 record-line-requires c κs = tt
 
+new-page-line-requires : tie.Need-new-page-line-requires
+new-page-line-requires c κs = tt
+
+make-line-requires : tie.Need-make-line-requires
+make-line-requires c κs = tt
+
 returns : tie.Need-returns
 returns c = rw (c .before .match .keys1) (c .tick-line .ensures)
 
@@ -84,7 +90,13 @@ returns-13 : tie.Need-returns-13
 returns-13 c = rw (c .before .match .keys13) (c .record-line .ensures)
 
 returns-14 : tie.Need-returns-14
-returns-14 c = let a = c .before .before .args in past-end callEntries (a .place) (now (a .line)) (c .match .rest)
+returns-14 c = rw (c .before .match .keys14) (c .new-page-line .ensures)
+
+returns-15 : tie.Need-returns-15
+returns-15 c = rw (c .before .match .keys15) (c .make-line .ensures)
+
+returns-16 : tie.Need-returns-16
+returns-16 c = let a = c .before .before .args in past-end callEntries (a .place) (now (a .line)) (c .match .rest)
 
 pub call-at-spec : {M : Type 1} → statement M
 call-at-spec =
@@ -103,6 +115,8 @@ call-at-spec =
     transitions-line-requires
     faults-line-requires
     record-line-requires
+    new-page-line-requires
+    make-line-requires
     returns
     returns-2
     returns-3
@@ -116,4 +130,6 @@ call-at-spec =
     returns-11
     returns-12
     returns-13
-    returns-14)
+    returns-14
+    returns-15
+    returns-16)

@@ -23,6 +23,12 @@ out-line-requires c κs = tt
 counts-line-requires : tie.Need-counts-line-requires
 counts-line-requires c κs = tt
 
+edition-line-requires : tie.Need-edition-line-requires
+edition-line-requires c κs = tt
+
+maker-line-requires : tie.Need-maker-line-requires
+maker-line-requires c κs = tt
+
 returns : tie.Need-returns
 returns c = rw (c .before .match .keys1) (c .condition-line .ensures)
 
@@ -42,7 +48,13 @@ returns-6 : tie.Need-returns-6
 returns-6 c = rw (c .before .match .keys6) (c .counts-line .ensures)
 
 returns-7 : tie.Need-returns-7
-returns-7 c = let a = c .before .before .args in past-end partEntries (a .place) (now (a .line)) (c .match .rest)
+returns-7 c = rw (c .before .match .keys7) (c .edition-line .ensures)
+
+returns-8 : tie.Need-returns-8
+returns-8 c = rw (c .before .match .keys8) (c .maker-line .ensures)
+
+returns-9 : tie.Need-returns-9
+returns-9 c = let a = c .before .before .args in past-end partEntries (a .place) (now (a .line)) (c .match .rest)
 
 pub part-at-spec : {M : Type 1} → statement M
 part-at-spec =
@@ -54,10 +66,14 @@ part-at-spec =
     held-line-requires
     out-line-requires
     counts-line-requires
+    edition-line-requires
+    maker-line-requires
     returns
     returns-2
     returns-3
     returns-4
     returns-5
     returns-6
-    returns-7)
+    returns-7
+    returns-8
+    returns-9)

@@ -1,51 +1,22 @@
--- The settings, the state, the hosts' parts and the counts follow each other in the list.
-use native.Mathlib.Omega.{arith}
+-- The edition, and behind it the others.
 use borrow.Author.Needs.{needs}
-use Rattle.spelling.proofs.Lines.{settings-line, host-line, counts-line}
+use Rattle.spelling.proofs.Lines.{other-line}
 use Rattle.spelling.proofs.part_of.Statement.{statement}
 use Rattle.spelling.proofs.part_of.Tie as tie
 
-settings-of-requires : tie.Need-settings-of-requires
-settings-of-requires c κs = c .if1 .taken
-
 returns : tie.Need-returns
-returns c = let a = c .before .before .args in rw (c .settings-of .ensures) (settings-line (a .u) (a .k) (c .before .if1 .taken))
+returns c = rw (c .if1 .taken)
 
-state-of-requires : tie.Need-state-of-requires
-state-of-requires c κs = tt
+sub-after-edition : tie.Need-sub-after-edition
+sub-after-edition c = search needs
+
+after-edition-requires : tie.Need-after-edition-requires
+after-edition-requires c κs = tt
 
 returns-2 : tie.Need-returns-2
-returns-2 c = rw (c .state-of .ensures, c .before .if2 .taken)
-
-sub-hosts-of : tie.Need-sub-hosts-of
-sub-hosts-of c = search needs
-
-hosts-of-requires : tie.Need-hosts-of-requires
-hosts-of-requires c κs = tt
-
-returns-3 : tie.Need-returns-3
-returns-3 c =
-    let a = c .before .before .before .before .args in
-    rw (c .hosts-of .ensures) (host-line (a .u) (a .k) (omega arith) (c .before .if3 .taken))
-
-counts-of-requires : tie.Need-counts-of-requires
-counts-of-requires c κs = tt
-
-returns-4 : tie.Need-returns-4
-returns-4 c =
-    let a = c .before .before .before .before .args in
-    rw (c .counts-of .ensures) (counts-line (a .u) (a .k) (c .before .if3 .left))
+returns-2 c =
+    let a = c .before .before .args in
+    rw (c .after-edition .ensures) (other-line (a .u) (a .k) (c .before .if1 .left))
 
 pub part-of-spec : {M : Type 1} → statement M
-part-of-spec =
-    tie.close
-    (tie.spec
-    settings-of-requires
-    returns
-    state-of-requires
-    returns-2
-    sub-hosts-of
-    hosts-of-requires
-    returns-3
-    counts-of-requires
-    returns-4)
+part-of-spec = tie.close (tie.spec returns sub-after-edition after-edition-requires returns-2)

@@ -12,11 +12,11 @@ use Rattle.spelling.proofs.show.Tie as tie
 
 abbrev Inv-loop : tie.InvT-loop
 Inv-loop u out₀ at n₀ k₀ t7 out n k =
-    (k ≤ 16) × (length out ≡ length out₀)
+    (k ≤ 17) × (length out ≡ length out₀)
     × (wroteAll (sheet out n) (left u k) ≡ wroteAll (sheet out₀ n₀) (left u 0))
 
 abbrev μ-loop : tie.MeasureT-loop
-μ-loop u out₀ at n₀ k₀ t7 out n k = 16 - k
+μ-loop u out₀ at n₀ k₀ t7 out n k = 17 - k
 
 slice-aggregate-phrase : tie.Need-slice-aggregate-phrase Inv-loop μ-loop
 slice-aggregate-phrase c = refl

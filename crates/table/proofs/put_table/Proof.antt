@@ -17,7 +17,7 @@ Inv-loop u out₀ at n₀ k₀ out n k =
     (length out ≡ length out₀) × (wroteAll (sheet out n) (drop k (tableLines u)) ≡ wroteAll (sheet out₀ at) (tableLines u))
 
 abbrev μ-loop : tie.MeasureT-loop
-μ-loop u out₀ at n₀ k₀ out n k = 23 - k
+μ-loop u out₀ at n₀ k₀ out n k = 24 - k
 
 loop-holds : tie.Need-loop-holds Inv-loop μ-loop
 loop-holds c = (refl, refl)
