@@ -22,7 +22,7 @@ abbrev pub startStopRows : Unit → ℕ → List ℕ → List Row
 startStopRows u host cdb =
     rowsOfStartStop (length cdb) host (wellFormed u) (isOut (u .out)) (waits u host) (byte 0 cdb) (isListed (u .drive .records) cdb)
 
--- The operation waits in the host's slot; "every accepted call .. sets the idle count to 0".
+-- The operation waits in the host's slot; as an accepted call it "sets the idle count to 0".
 abbrev pub startStopEffect : ℕ → List ℕ → Wanted → Unit → Unit
 startStopEffect host cdb Unlisted u = u
 startStopEffect host cdb (Wants t) u = withSlot host (Waiting (requestFor t cdb)) (rested u)

@@ -17,7 +17,7 @@ use Rattle.exchange.specs.Answered.{answeredFor}
 use Rattle.bridge.specs.Bridge.{startStopOutcome}
 use Rattle.exchange.specs.Exchange.{nextOutcome, answerOutcome}
 use Rattle.calls.specs.Calls.{outcome}
-use Rattle.calls.specs.Facts.{number-1, number-2, number-3, recovery-3, timer-3, largest-numbers, slot-3, number-4, out-read, out-start, out-next, out-sense, out-epc, number-5, none-out, number-6, number-7, number-8, byte-2, modifier-1, number-9, written-9, number-10, by-current, not-by-saved, unsupported-z, verify-sent, verify-bad, verify-stays, verify-held, verify-told, start-starts, start-stays, start-1h, goes-starts, goes-stays, epc-keeps, epc-stays, restores-saved, timer-16, timer-not-on, flag-by-saved, flag-off, idle-counts, idle-stays, fails-told, fails-held, stop-fails, goes-fails, flushes-255, flushes-stay, page-1A, page-51, page-53, page-3, page-out, counts-timer, counts-deepest, counts-use, counts-low, counts-held, counts-cause, counts-flush, counts-bad, counts-fill, counts-full, resets-keep, power-on-counts, power-on-held, every-fixed, every-saved, every-unsaved, every-none, fixed-alone, fixed-goes, number-11, draft-11, one-before-11, three-before-11, eleven-not-4, idle-page, standby-page, old-page, minutes-set, minutes-saved, minutes-zero, draft-minutes, state-minutes, long-timer-3, long-idle-3, long-numbers, idle-goes-on, idle-fills, Facts}
+use Rattle.calls.specs.Facts.{number-1, number-2, number-3, recovery-3, timer-3, largest-numbers, slot-3, number-4, out-read, out-start, out-next, out-sense, out-epc, number-5, none-out, number-6, number-7, number-8, byte-2, modifier-1, number-9, written-9, number-10, by-current, not-by-saved, unsupported-z, verify-sent, verify-bad, verify-stays, verify-held, verify-told, start-starts, start-stays, start-1h, goes-starts, goes-stays, epc-keeps, epc-stays, restores-saved, timer-16, timer-not-on, flag-by-saved, flag-off, idle-counts, idle-stays, fails-told, fails-held, stop-fails, goes-fails, flushes-255, flushes-stay, page-1A, page-51, page-53, page-3, page-out, counts-timer, counts-deepest, counts-use, counts-low, counts-held, counts-cause, counts-flush, counts-bad, counts-fill, counts-full, resets-keep, power-on-counts, power-on-held, every-fixed, every-saved, every-unsaved, every-none, fixed-alone, fixed-goes, number-11, draft-11, one-before-11, three-before-11, eleven-not-4, idle-page, standby-page, old-page, minutes-set, minutes-saved, minutes-zero, draft-minutes, state-minutes, long-timer-3, long-idle-3, long-numbers, idle-goes-on, idle-fills, poll-keeps, told-keeps, polled-sleeps, Facts}
 
 pub facts : Facts outcome
 unfolding countsAfter tableOf countedIn flatOf parameterBytes transitionBytes recordWellFormed recordsWellFormed driveWellFormed timersAsk ticked used poweredOn made aborts performed hostsWellFormed wellFormed lowest epcOutcome tickOutcome readOutcome writeOutcome powerOnOutcome resetOutcome senseOutcome logOutcome transitionsOutcome newPageOutcome loggedWords logWords logBytes descriptor descriptorPage senseBytes wanted isListed answeredFor startStopOutcome nextOutcome answerOutcome
@@ -114,3 +114,6 @@ facts long-idle-3 = refl
 facts long-numbers = refl
 facts idle-goes-on = refl
 facts idle-fills = refl
+facts poll-keeps = (refl, refl)
+facts told-keeps = (refl, refl)
+facts polled-sleeps = (refl, refl)

@@ -1,7 +1,6 @@
 -- A call changes no slot and no held sense but those of its own host: each effect sets the one or the other there, or clears all.
 use mathlib.Core.Path.{_≡_, refl}
 use mathlib.Core.Bool.{Bool, true, false, _||_, false≢true, true≢false}
-use mathlib.Core.List.{[]}
 use Prim.Native.Nat.{ℕ}
 use lib.ListN.{replicate}
 use Rattle.requests.specs.declared.Reply.the-variants.{Good}
@@ -10,7 +9,7 @@ use Rattle.unit.specs.declared.Unit.{Unit}
 use Rattle.unit.specs.declared.Out.the-variants.{NoneOut}
 use Rattle.refusals.specs.declared.Verdict.the-variants.{Clear}
 use Rattle.calls.specs.Calls.{Call, setFeatures, tick, read, write, powerOn, hardReset, softReset, startStop, next, answer, requestSense, logPage, transitionsPage, newPage, outcome, step}
-use Rattle.calls.specs.Described.{Reach, nobody, only, everybody, reachOf, isReset, sameKind, effect}
+use Rattle.calls.specs.Described.{Reach, nobody, only, everybody, reachOf, isReset, isSense, sameKind, effect}
 use Rattle.calls.specs.Table.{verdictIn}
 use Rattle.calls.proofs.Numbers.{acceptance-does}
 use Rattle.calls.proofs.Steps.{after-every}
@@ -64,7 +63,7 @@ all-spared u c e = rw e at (spared u c)
 
 -- Only an answer, REQUEST SENSE and a reset change what is held; of the answers, only a bad one with IMMED 1 (Answers · good-not-held, told-not-held).
 abbrev pub mayHold : Call → Bool
-mayHold c = isReset c || sameKind c (answer 0 Good) || sameKind c (requestSense 0 [])
+mayHold c = isReset c || sameKind c (answer 0 Good) || isSense c
 
 pub held-kept : (u : Unit) (c : Call) → mayHold c ≡ false → step u c .held ≡ u .held
 held-kept u = after-every (λ c v. mayHold c ≡ false → v .held ≡ u .held) u (record {

@@ -24,6 +24,7 @@ use Rattle.refusals.specs.declared.Verdict.{Verdict}
 use Rattle.refusals.specs.declared.Verdict.the-variants.{Clear, Given}
 use Rattle.unit.specs.Units.{wellFormed, isOut, withDrive, largestOf, heldOf}
 use Rattle.unit.specs.declared.Held.the-variants.{Nothing}
+use Rattle.unit.proofs.Hosts.{held-again}
 use Rattle.senses.specs.Senses.{senseBytes, powerSense}
 use Rattle.unit.specs.declared.Unit.{Unit}
 use Rattle.engine.specs.Engine.{epcRows, tickOutcome, powerOnOutcome, resetOutcome}
@@ -65,7 +66,7 @@ module _ (u : Unit) (host : ℕ) where
   unfolding used
   write-leaves e = rw (acceptance-does u (write host) e .0) (record { power = refl; stopped = refl; unsaved = refl; idle = refl }, refl)
 
--- ---- START STOP UNIT, the next command, REQUEST SENSE
+-- ---- START STOP UNIT, the next command
 
 -- Accepted, each leaves the condition and the marks as they are: it is the drive's answer that changes them.
 module _ (u : Unit) (host : ℕ) where
@@ -78,15 +79,32 @@ module _ (u : Unit) (host : ℕ) where
   pub next-leaves : verdictIn (outcome u (next host) .said) ≡ Clear → Leaves (u .drive .power) (u .stopped) (u .unsaved) (step u (next host))
   next-leaves e = rw (acceptance-does u (next host) e .0) (record { power = refl; stopped = refl; unsaved = refl; idle = refl })
 
-  pub sense-leaves : (buffer : List ℕ) → verdictIn (outcome u (requestSense host buffer) .said) ≡ Clear
-      → Leaves (u .drive .power) (u .stopped) (u .unsaved) (step u (requestSense host buffer))
-  sense-leaves buffer e =
-      rw (acceptance-does u (requestSense host buffer) e .0) (record { power = refl; stopped = refl; unsaved = refl; idle = refl })
+-- ---- REQUEST SENSE
+
+-- A call that is not EPC, and has no effect where it is accepted, changes no record.
+still : (u : Unit) (c : Call) → (verdictIn (outcome u c .said) ≡ Clear → effect u c ≡ u) → isEpc c ≡ false → step u c ≡ u
+still u c none other = on (verdictIn (outcome u c .said)) refl
+  where
+    on : (v : Verdict) → verdictIn (outcome u c .said) ≡ v → step u c ≡ u
+    on Clear e = acceptance-does u c e .0 ∙ none e
+    on (Given r) e = other-keeps u c r e other
+
+module _ (u : Unit) (host : ℕ) (buffer : List ℕ) where
+  -- Accepted, it changes nothing but what is held: the idle count too is as it was, whether a held sense was told or not. The record is written out,
+  -- so that no builder is taken at its word. (What is held: Hosts · others-spared, runs/Held · held-told.)
+  pub sense-leaves : verdictIn (outcome u (requestSense host buffer) .said) ≡ Clear → let v = step u (requestSense host buffer) in
+      v ≡ record { edition = u .edition; drive = u .drive; stopped = u .stopped; unsaved = u .unsaved; slots = u .slots; held = v .held; out = u .out }
+  sense-leaves e = rw (acceptance-does u (requestSense host buffer) e .0)
+
+  -- One that finds nothing held, or is refused, changes no record.
+  pub poll-still : (verdictIn (outcome u (requestSense host buffer) .said) ≡ Clear → heldOf (u .held) host ≡ Nothing)
+      → step u (requestSense host buffer) ≡ u
+  poll-still none = still u (requestSense host buffer) (λ e. rw (held-again (u .held) host Nothing (none e))) refl
 
   -- "else key 0 with the condition": whatever the marks, so of a unit that is still stopped too.
-  pub condition-told : (buffer : List ℕ) → verdictIn (outcome u (requestSense host buffer) .said) ≡ Clear → heldOf (u .held) host ≡ Nothing
+  pub condition-told : verdictIn (outcome u (requestSense host buffer) .said) ≡ Clear → heldOf (u .held) host ≡ Nothing
       → outcome u (requestSense host buffer) .buffer ≡ senseBytes false (powerSense (u .drive .power))
-  condition-told buffer e none = acceptance-does u (requestSense host buffer) e .1 ∙ ap (toldBytes (u .drive .power)) none
+  condition-told e none = acceptance-does u (requestSense host buffer) e .1 ∙ ap (toldBytes (u .drive .power)) none
 
 -- ---- the settings
 
@@ -120,25 +138,17 @@ settings-kept u c other p =
 
 -- ---- the log pages
 
--- A call that has no effect and is not EPC changes no record, accepted or not.
-still : (u : Unit) (c : Call) → effect u c ≡ u → isEpc c ≡ false → step u c ≡ u
-still u c none other = on (verdictIn (outcome u c .said)) refl
-  where
-    on : (v : Verdict) → verdictIn (outcome u c .said) ≡ v → step u c ≡ u
-    on Clear e = acceptance-does u c e .0 ∙ none
-    on (Given r) e = other-keeps u c r e other
-
 -- "Reading the log page changes no record.",
 pub log-still : (u : Unit) (buffer : List ℕ) → step u (logPage buffer) ≡ u
-log-still u buffer = still u (logPage buffer) refl refl
+log-still u buffer = still u (logPage buffer) (λ e. refl) refl
 
 -- nor does page 1Ah: "Reading it changes no record."
 pub transitions-still : (u : Unit) (buffer : List ℕ) → step u (transitionsPage buffer) ≡ u
-transitions-still u buffer = still u (transitionsPage buffer) refl refl
+transitions-still u buffer = still u (transitionsPage buffer) (λ e. refl) refl
 
 -- nor does a new page.
 pub new-page-still : (u : Unit) (number : ℕ) (buffer : List ℕ) → step u (newPage number buffer) ≡ u
-new-page-still u number buffer = still u (newPage number buffer) refl refl
+new-page-still u number buffer = still u (newPage number buffer) (λ e. refl) refl
 
 -- The first two are refused by 1 and 3 alone.
 pub log-read : (u : Unit) (buffer : List ℕ) → wellFormed u ≡ true → length buffer ≡ 512

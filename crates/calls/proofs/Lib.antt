@@ -10,6 +10,7 @@ pub mod Numbers
 pub mod OneResult
 pub mod Out
 pub mod Progress
+pub mod Promised
 pub mod Reserved
 pub mod Selected
 pub mod Subcommands

@@ -94,7 +94,7 @@ module _ (u : Unit) (fine : UnitFine u) where
     succeeds = λ host reply q waits.
         let there = drive-changed _ answered-fine _ (entered-fine (largestOf u) _ (answered-fine .drive) _) refl in
         slot-changed _ (marks-changed _ there _ _) host Empty refl refl;
-    tells = λ host buffer. held-changed _ (idle-restarted u fine) host _;
+    tells = λ host buffer. held-changed u fine host _;
   })
 
 -- Well formed in, well formed out: every call leaves a well-formed record well formed.

@@ -165,9 +165,17 @@ isTick c = sameKind c tick
 abbrev pub isNewPage : Call → Bool
 isNewPage c = sameKind c (newPage 0 [])
 
--- "a tick or a log page read": page 1Ah and the new pages are log pages too.
-abbrev pub isTickOrLog : Call → Bool
-isTickOrLog c = isTick c || sameKind c (logPage []) || sameKind c (transitionsPage []) || isNewPage c
+-- "a log page read": page 1Ah and the new pages are log pages too.
+abbrev pub isLogRead : Call → Bool
+isLogRead c = sameKind c (logPage []) || sameKind c (transitionsPage []) || isNewPage c
+
+abbrev pub isSense : Call → Bool
+isSense c = sameKind c (requestSense 0 [])
+
+-- The exceptions in "every accepted call but a tick or a log page read, sets the idle count to 0", and REQUEST SENSE. Document 02, request (vii): "It
+-- must no longer set the idle count to 0. Document 01's clause on accepted calls gains this exception."
+abbrev pub exceptedFromRestart : Call → Bool
+exceptedFromRestart c = isTick c || isLogRead c || isSense c
 
 abbrev pub reachOf : Call → Reach
 reachOf c = describe c .reach

@@ -77,7 +77,7 @@ quiet = keeps off off off
 abbrev pub holding : List Record → Unit
 holding rs = withDrive (withRecords rs (fresh .drive)) fresh
 
--- The unit after some idle time: an accepted call and an abort set the count to 0, any other refusal leaves it.
+-- The unit after some idle time, so that it shows what sets the count to 0 and what leaves it.
 abbrev pub idled : ℕ → Unit → Unit
 idled n u = withDrive (withIdle n (u .drive)) u
 

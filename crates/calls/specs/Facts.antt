@@ -1,12 +1,12 @@
--- Values of document 01, and of document 02, that stand in one definition each, said again on a call: a table of facts beside the marked examples, under one statement of
--- any step function. Each row is a run from a record, and what its last outcome shows.
+-- Values of document 01, and of document 02, that stand in one definition each, said again on a call: a table of facts beside the marked examples,
+-- under one statement of any step function. Each row is a run from a record, and what its last outcome shows.
 use mathlib.Core.Bool.{Bool, true, false}
 use mathlib.Core.List.{List, [], _∷_, _++_}
 use mathlib.Core.Path.{_≡_}
 use Prim.Native.Nat.{ℕ}
 use lib.ListN.{replicate, take}
 use Rattle.conditions.specs.declared.Condition.the-variants.{IdleA, IdleC, StandbyY, StandbyZ}
-use Rattle.conditions.specs.declared.Cause.the-variants.{Command}
+use Rattle.conditions.specs.declared.Cause.the-variants.{Timer, Command}
 use Rattle.conditions.specs.declared.Power.{Power}
 use Rattle.conditions.specs.declared.Power.the-variants.{Active, Low}
 use Rattle.drive.specs.Drives.{withCounts, madeRecord}
@@ -37,7 +37,7 @@ use Rattle.requests.specs.declared.Failure.the-variants.{CommandSequence, NotRe
 use Rattle.requests.specs.declared.Reply.{Reply}
 use Rattle.requests.specs.declared.Reply.the-variants.{Good, Bad}
 use Rattle.calls.specs.Calls.{Call, tick, read, write, powerOn, hardReset, softReset, startStop, next, answer, requestSense, logPage, transitionsPage, newPage, plain, progressed, Outcome, StepFunction}
-use Rattle.calls.specs.Examples.{Example, IsShown, off, on, new, fresh, keeps, quiet, holding, idled, epcCall, cdbCall, done, aborted, sends}
+use Rattle.calls.specs.Examples.{Example, IsShown, off, on, new, fresh, keeps, quiet, holding, idled, epcCall, cdbCall, done, aborted, isIn, sends}
 use Rattle.calls.specs.Table.{verdictIn}
 
 -- ---- what the rows show
@@ -198,6 +198,7 @@ pub data Fact : Type 0 where
   every-fixed every-saved every-unsaved every-none fixed-alone fixed-goes : Fact
   number-11 draft-11 one-before-11 three-before-11 eleven-not-4 idle-page standby-page old-page : Fact
   minutes-set minutes-saved minutes-zero draft-minutes state-minutes long-timer-3 long-idle-3 long-numbers idle-goes-on idle-fills : Fact
+  poll-keeps told-keeps polled-sleeps : Fact
 
 abbrev pub factOf : Fact → Example
 -- ---- "Numbers given back": each number and its sense, on a call to which its row alone applies.
@@ -504,6 +505,23 @@ factOf long-numbers = record { start = ofPublished (sized 39321000 65535 3932100
 factOf idle-goes-on = record { start = idled 65535 (ofPublished fresh); calls = tick ∷ []; shows = λ o. o ≡ done (idled 65536 (ofPublished fresh)) }
 factOf idle-fills =
     record { start = idled 39320999 (ofPublished fresh); calls = tick ∷ tick ∷ []; shows = λ o. o ≡ done (idled 39321000 (ofPublished fresh)) }
+-- ---- document 02, request (vii). REQUEST SENSE "must no longer set the idle count to 0": neither where nothing is held nor where a held sense is told. A
+-- disk that is polled falls asleep as in example g.
+factOf poll-keeps = record {
+  start = idled 7 fresh;
+  calls = requestSense 0 (replicate 18 0xFF) ∷ [];
+  shows = λ o. (o .said ≡ plain Done) × (o .unit ≡ idled 7 fresh);
+}
+factOf told-keeps = record {
+  start = withHeld 3 (Holds CommandSequence) (idled 7 fresh);
+  calls = requestSense 3 (replicate 18 0xFF) ∷ [];
+  shows = λ o. tellsDeferred 0x0B 0x2C 0x00 o × (o .unit ≡ idled 7 fresh);
+}
+factOf polled-sleeps = record {
+  start = new (on 20) off off off (on 50);
+  calls = replicate 10 tick ++ requestSense 0 (replicate 18 0xFF) ∷ replicate 10 tick;
+  shows = isIn (Low IdleA Timer);
+}
 
 -- ---- the statement
 

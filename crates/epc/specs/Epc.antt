@@ -157,7 +157,7 @@ goneTo (One c) d = entered (Low c Command) d
 goneTo Every d = d
 goneTo Unlisted d = d
 
--- An accepted subcommand; it, "like every accepted call but a tick or a log page read, sets the idle count to 0".
+-- An accepted subcommand; it, like an aborted one, "sets the idle count to 0".
 unfoldable pub performed : Registers → Drive → Drive
 performed q d =
     cond (isGoTo (subOf (q .lba))) (goneTo (named (q .count)) (restarted d))

@@ -1,4 +1,4 @@
--- The whole outcome of REQUEST SENSE and of the log pages: document 01, "Sense and log bytes", and document 02, requests (i) and (vi).
+-- The whole outcome of REQUEST SENSE and of the log pages: document 01, "Sense and log bytes", and document 02, requests (i), (vi) and (vii).
 use mathlib.Core.Bool.{true, false}
 use mathlib.Core.List.{List}
 use Prim.Native.Nat.{ℕ}
@@ -9,7 +9,7 @@ use Rattle.pages.specs.Logs.{logBytes}
 use Rattle.published.specs.Descriptors.{descriptorPage, lacksPage}
 use Rattle.transitions.specs.Counts.{tableOf}
 use Rattle.transitions.specs.Page.{transitionBytes}
-use Rattle.unit.specs.Units.{isOut, heldOf, wellFormed, withHeld, rested}
+use Rattle.unit.specs.Units.{isOut, heldOf, wellFormed, withHeld}
 use Rattle.requests.specs.Requests.{failureSense}
 use Rattle.refusals.specs.Refusals.{Row, lowest}
 use Rattle.refusals.specs.Verdicts.{rowsOfSense, rowsOfPage, rowsOfNewPage}
@@ -43,8 +43,9 @@ abbrev pub toldBytes : Power → Held → List ℕ
 toldBytes p Nothing = senseBytes false (powerSense p)
 toldBytes p (Holds f) = senseBytes true (failureSense f)
 
+-- "and is then dropped". Request (vii): "It must no longer set the idle count to 0."
 abbrev pub senseEffect : ℕ → Unit → Unit
-senseEffect host u = withHeld host Nothing (rested u)
+senseEffect host u = withHeld host Nothing u
 
 unfoldable pub senseOutcome : Unit → ℕ → List ℕ → Filled
 senseOutcome u host buffer =

@@ -1,6 +1,6 @@
 // REQUEST SENSE and the log pages, the calls that write into a lent buffer; and the transition counts by value.
 ghost use mathlib.Core.Path.{_≡_};
-ghost use Rattle.readouts.specs.Readouts.{toldBytes, senseEffect, senseOutcome, logOutcome, countsHanded, transitionsOutcome, newPageOutcome};
+ghost use Rattle.readouts.specs.Readouts.{toldBytes, senseOutcome, logOutcome, countsHanded, transitionsOutcome, newPageOutcome};
 ghost use Rattle.unit.specs.Units.{heldOf};
 use conditions::Power;
 use outcomes::Called;
@@ -28,13 +28,7 @@ fn told(u: Unit, host: u32) -> [u8; 18]
     told_bytes(power, unit::held_of(held, host))
 }
 
-fn sense_effect(u: Unit, host: u32) -> Unit
-    ensures { λ v. ⌜ v ≡ senseEffect host u ⌝ }
-{
-    unit::with_held(unit::rest(u), host, Held::Nothing)
-}
-
-// REQUEST SENSE, into the lent buffer.
+// REQUEST SENSE, into the lent buffer. A held sense that is told is dropped; nothing else of the record changes.
 pub fn request_sense(u: Unit, host: u32, buffer: &mut [u8]) -> Called
     ensures { λ c. ⌜ (c ≡ senseOutcome u host (now (buffer .entry)) .called) × (now (buffer .exit) ≡ senseOutcome u host (now (buffer .entry)) .buffer) ⌝ }
 {
@@ -45,7 +39,7 @@ pub fn request_sense(u: Unit, host: u32, buffer: &mut [u8]) -> Called
         Verdict::Clear => {
             let bytes = told(u, host);
             rows::copy_in(&bytes, buffer, 0);
-            outcomes::settle(Verdict::Clear, sense_effect(u, host))
+            outcomes::settle(Verdict::Clear, unit::with_held(u, host, Held::Nothing))
         }
         Verdict::Given(r) => outcomes::settle(Verdict::Given(r), u),
     }

@@ -207,7 +207,7 @@ pub stood : gather otherIn (deeds (history noon callsMade))
 unfolding computed
 stood = refl
 
--- Every kind of call that is no part of an operation, accepted, stands as it stood.
+-- Every kind of call that is no part of an operation, accepted, stands as it stood. (The new pages are not among them: noon is a draft unit.)
 abbrev others : List Call
 others =
     hardReset ∷ softReset ∷ powerOn ∷ epcCall 0x82 0x012C22 ∷ read 0 ∷ write 1 ∷ tick ∷ requestSense 2 (replicate 18 0)
@@ -217,12 +217,12 @@ pub others-stand : serial (history noon others) ≡ others
 unfolding computed
 others-stand = refl
 
--- Of these, all but the tick and the log pages set the idle count to 0.
+-- Of these, all but the tick, REQUEST SENSE and the log pages set the idle count to 0.
 abbrev keepsIdle : Deed → List Deed
 keepsIdle d = cond (restartsIdle d) [] (d ∷ [])
 
 pub others-restart : gather keepsIdle (deeds (history noon others))
-    ≡ does tick ∷ does (logPage (replicate 512 0)) ∷ does (transitionsPage (replicate 52 0)) ∷ []
+    ≡ does tick ∷ does (requestSense 2 (replicate 18 0)) ∷ does (logPage (replicate 512 0)) ∷ does (transitionsPage (replicate 52 0)) ∷ []
 unfolding computed
 others-restart = refl
 

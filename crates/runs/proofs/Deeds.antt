@@ -42,7 +42,7 @@ use Rattle.operations.specs.declared.Progress.the-variants.{More, Ended, NotTak
 use Rattle.operations.specs.declared.Report.{Report}
 use Rattle.exchange.specs.declared.Replied.{Replied}
 use Rattle.calls.specs.Calls.{Call, setFeatures, tick, read, write, powerOn, hardReset, softReset, startStop, next, answer, requestSense, logPage, transitionsPage, newPage, Said, plain, accepted, sent, progressed, outcome, step}
-use Rattle.calls.specs.Described.{isReset, isPowerOn, isWrite, isTickOrLog, isSenseOf, ownRows, effect}
+use Rattle.calls.specs.Described.{isReset, isPowerOn, isWrite, isTick, exceptedFromRestart, isSenseOf, ownRows, effect}
 use Rattle.calls.specs.Table.{verdictIn, appliesTo}
 use Rattle.unit.proofs.Hosts.{other-held}
 use Rattle.refusals.proofs.Lowest.{not-applies}
@@ -238,41 +238,48 @@ pub data Leaves (u : Unit) (c : Call) (v : Unit) : Type 0 where
   -- any other leaves all three
   passes : Is c false false false → v .slots ≡ u .slots → v .out ≡ u .out → v .unsaved ≡ u .unsaved → Leaves u c v
 
+-- What it leaves of the idle count: it starts again, or it stays; of a tick nothing is said here.
+pub data LeavesIdle (u : Unit) (c : Call) (v : Unit) : Type 0 where
+  restarts : exceptedFromRestart c ≡ false → v .drive .idle .0 ≡ 0 → LeavesIdle u c v
+  is-tick : exceptedFromRestart c ≡ true → isTick c ≡ true → LeavesIdle u c v
+  stays : exceptedFromRestart c ≡ true → v .drive .idle ≡ u .drive .idle → LeavesIdle u c v
+
 -- All that is asked of such a call where it is not looked at by itself: also of the held senses and of the idle count.
 pub record Done (u : Unit) (c : Call) (v : Unit) : Type 0 where
   pub leaves : Leaves u c v
   pub held : (k : ℕ) → isReset c ≡ false → isSenseOf (λ host. eqb host k) c ≡ false → heldOf (v .held) k ≡ heldOf (u .held) k
-  pub idle : isTickOrLog c ≡ false → v .drive .idle .0 ≡ 0
+  pub idle : LeavesIdle u c v
 
 -- One row for all of them.
 module _ (P : Deed → Unit → Type 0) (u : Unit) (done : (c : Call) (v : Unit) → Done u c v → P (does c) v) where
   row : (c : Call) (v : Unit) → Leaves u c v
       → ((k : ℕ) → isReset c ≡ false → isSenseOf (λ host. eqb host k) c ≡ false → heldOf (v .held) k ≡ heldOf (u .held) k)
-      → (isTickOrLog c ≡ false → v .drive .idle .0 ≡ 0) → P (does c) v
+      → LeavesIdle u c v → P (does c) v
   row c v leaves held idle = done c v (record { leaves = leaves; held = held; idle = idle })
 
   pub all-others : Others P u
   all-others = record {
-    epc = λ q clear. row (setFeatures q) _ (passes (refl, refl, refl) refl refl refl) (λ k r s. refl) (λ i. idle-after q (u .drive));
+    epc = λ q clear. row (setFeatures q) _ (passes (refl, refl, refl) refl refl refl) (λ k r s. refl) (restarts refl (idle-after q (u .drive)));
     ticks =
         row tick _ (either (Leaves u tick) (isOut (u .out)) _ _ (passes (refl, refl, refl) refl refl refl) (passes (refl, refl, refl) refl refl refl))
-        (λ k r s. either (λ (v : Unit). heldOf (v .held) k ≡ heldOf (u .held) k) (isOut (u .out)) _ _ refl refl) (λ i. absurd (true≢false i));
-    reads = λ host clear. row (read host) _ (passes (refl, refl, refl) refl refl refl) (λ k r s. refl) (λ i. used-idle);
+        (λ k r s. either (λ (v : Unit). heldOf (v .held) k ≡ heldOf (u .held) k) (isOut (u .out)) _ _ refl refl) (is-tick refl refl);
+    reads = λ host clear. row (read host) _ (passes (refl, refl, refl) refl refl refl) (λ k r s. refl) (restarts refl used-idle);
     writes = λ host clear.
-        row (write host) _ (marks (refl, refl, refl) (not-applies (mediumRows u host) CommandOut clear) refl refl refl) (λ k r s. refl) (λ i. used-idle);
+        row (write host) _ (marks (refl, refl, refl) (not-applies (mediumRows u host) CommandOut clear) refl refl refl) (λ k r s. refl)
+        (restarts refl used-idle);
     powers-on =
         row powerOn _ (sweeps true (refl, refl, refl) refl refl refl) (λ k r. absurd (true≢false r))
-        (λ i. ap (λ (t : Tenths). t .0) (powered-on-leaves (u .drive) .2));
-    resets-hard = row hardReset _ (sweeps false (refl, refl, refl) refl refl refl) (λ k r. absurd (true≢false r)) (λ i. refl);
-    resets-soft = row softReset _ (sweeps false (refl, refl, refl) refl refl refl) (λ k r. absurd (true≢false r)) (λ i. refl);
+        (restarts refl (ap (λ (t : Tenths). t .0) (powered-on-leaves (u .drive) .2)));
+    resets-hard = row hardReset _ (sweeps false (refl, refl, refl) refl refl refl) (λ k r. absurd (true≢false r)) (restarts refl refl);
+    resets-soft = row softReset _ (sweeps false (refl, refl, refl) refl refl refl) (λ k r. absurd (true≢false r)) (restarts refl refl);
     tells = λ host buffer clear.
         row (requestSense host buffer) _ (passes (refl, refl, refl) refl refl refl)
-        (λ k r other. other-held host k (λ same. eqb-false host k other (sym same)) (u .held) Nothing) (λ i. refl);
-    logs = λ buffer clear. row (logPage buffer) _ (passes (refl, refl, refl) refl refl refl) (λ k r s. refl) (λ i. absurd (true≢false i));
+        (λ k r other. other-held host k (λ same. eqb-false host k other (sym same)) (u .held) Nothing) (stays refl refl);
+    logs = λ buffer clear. row (logPage buffer) _ (passes (refl, refl, refl) refl refl refl) (λ k r s. refl) (stays refl refl);
     logs-transitions = λ buffer clear.
-        row (transitionsPage buffer) _ (passes (refl, refl, refl) refl refl refl) (λ k r s. refl) (λ i. absurd (true≢false i));
+        row (transitionsPage buffer) _ (passes (refl, refl, refl) refl refl refl) (λ k r s. refl) (stays refl refl);
     logs-new = λ number buffer clear.
-        row (newPage number buffer) _ (passes (refl, refl, refl) refl refl refl) (λ k r s. refl) (λ i. absurd (true≢false i));
+        row (newPage number buffer) _ (passes (refl, refl, refl) refl refl refl) (λ k r s. refl) (stays refl refl);
   }
     where
       used-idle : used (u .drive) .idle .0 ≡ 0

@@ -17,6 +17,7 @@ pub mod Fates
 pub mod Reports
 pub mod Held
 pub mod Idle
+pub mod Polls
 pub mod Computed
 pub mod Afternoon
 pub mod Morning
@@ -28,3 +29,4 @@ pub mod WrongStarts
 pub mod WrongSearches
 pub mod WrongSelections
 pub mod WrongEditions
+pub mod WrongPolls

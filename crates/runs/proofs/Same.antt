@@ -324,7 +324,7 @@ module _ (past : List Deed) (u v : Unit) (fine : wellFormed u ≡ true) (same : 
         stopped = same .stopped;
         held = rw (same .held);
         unsaved = same .unsaved;
-        at-rest = λ quiet. (same .at-rest quiet .0, refl);
+        at-rest = same .at-rest;
       })
 
   -- A log page of this many bytes.

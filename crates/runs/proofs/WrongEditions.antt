@@ -23,7 +23,7 @@ use Rattle.calls.specs.Facts.{withIdleB, ofPublished, minutes-set, draft-minute
 use Rattle.calls.specs.Table.{isEpc, verdictIn, isClear}
 use Rattle.calls.proofs.Editions.{bounded}
 use Rattle.runs.proofs.Computed.{computed}
-use Rattle.runs.proofs.WrongPrograms.{leaving}
+use Rattle.runs.proofs.WrongPrograms.{leaving, onAccepted}
 
 -- ---- the wrong programs
 
@@ -60,11 +60,9 @@ abbrev isPublished : Edition → Bool
 isPublished Draft = false
 isPublished Published = true
 
--- An accepted call that passes this test leaves another record on a published unit alone: made of the one before and the one that it should leave.
+-- An accepted call that passes this test leaves another record on a published unit alone.
 abbrev onPublished : (Call → Bool) → (Unit → Unit → Unit) → StepFunction
-onPublished test left u c =
-    let o = outcome u c in
-    cond (isPublished (u .edition) && test c && wasDone o) (leaving (left u (o .unit)) o) o
+onPublished test = onAccepted (λ u c. isPublished (u .edition) && test c)
 
 -- A write does not set the unsaved mark, so that no stop flushes what it wrote.
 abbrev pub marksNoWrite : StepFunction

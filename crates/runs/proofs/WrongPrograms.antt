@@ -20,6 +20,8 @@ use Rattle.refusals.specs.declared.SenseDue.{SenseDue}
 use Rattle.refusals.specs.declared.SenseDue.the-variants.{NoSense, WithSense}
 use Rattle.unit.specs.declared.Slot.{Slot}
 use Rattle.unit.specs.declared.Slot.the-variants.{Empty, Waiting}
+use Rattle.unit.specs.declared.Held.{Held}
+use Rattle.unit.specs.declared.Held.the-variants.{Nothing, Holds}
 use Rattle.unit.specs.declared.Out.{Out}
 use Rattle.unit.specs.declared.Out.the-variants.{NoneOut, OutFor}
 use Rattle.refusals.specs.declared.Answer.the-variants.{Refused}
@@ -34,7 +36,7 @@ use Rattle.operations.specs.declared.Report.{Report}
 use Rattle.operations.specs.declared.Progress.{Progress}
 use Rattle.operations.specs.declared.Progress.the-variants.{More, Ended, NotTaken}
 use Rattle.calls.specs.Calls.{Call, tick, next, answer, Said, plain, accepted, sent, progressed, Outcome, outcome, StepFunction}
-use Rattle.calls.specs.Described.{sameKind, isWrite, reachOf, ofHost, isSenseOf, lent}
+use Rattle.calls.specs.Described.{sameKind, isWrite, reachOf, ofHost, isSense, lent}
 use Rattle.calls.specs.Examples.{off}
 use Rattle.calls.specs.Table.{usesMedium, verdictIn, isClear}
 use Rattle.runs.specs.Serial.{nothingWaits}
@@ -176,10 +178,15 @@ outHasCode code u (OutFor host) = dueHasCode code (u .unsaved) (slotOf (u .slots
 abbrev pub failsOn : ℕ → Unit → Call → Bool
 failsOn code u c = isFailure (outcome u c .said) && outHasCode code u (u .out)
 
--- Another record is left, made from the one before the call and the one that it should leave: after every failure, or that of one command.
+-- Another record is left, made from the one before the call and the one that it should leave: after every call,
 abbrev pub leftBy : (Unit → Unit → Unit) → StepFunction
 leftBy change u c = leaving (change u (outcome u c .unit)) (outcome u c)
 
+-- after an accepted call that passes the test,
+abbrev pub onAccepted : (Unit → Call → Bool) → (Unit → Unit → Unit) → StepFunction
+onAccepted test change u c = cond (test u c && isClear (verdictIn (outcome u c .said))) (leftBy change u c) (outcome u c)
+
+-- after every failure, or after that of one command.
 abbrev pub onFailure : (Unit → Unit → Unit) → StepFunction
 onFailure change u c = cond (isFailure (outcome u c .said)) (leftBy change u c) (outcome u c)
 
@@ -310,21 +317,21 @@ swallows = reporting (λ report. More)
 abbrev pub mutes : StepFunction
 mutes = reporting (λ report. Ended (record { status = report .status; sense = NoSense; flushes = report .flushes }))
 
+-- A sense is held.
+abbrev pub isHolding : Held → Bool
+isHolding Nothing = false
+isHolding (Holds f) = true
+
 -- One that drops every host's held sense once any host asks for its own.
 abbrev pub noneHeldIn : Unit → Unit
 noneHeldIn u = unitOf (u .edition) (u .drive) (u .stopped) (u .unsaved) (u .slots) (replicate 4 noneHeld) (u .out)
 
 abbrev pub dropsAllHeld : StepFunction
-dropsAllHeld u c =
-    cond (isSenseOf (λ host. true) c && isClear (verdictIn (outcome u c .said))) (leaving (noneHeldIn (outcome u c .unit)) (outcome u c)) (outcome u c)
+dropsAllHeld = onAccepted (λ u. isSense) (λ before. noneHeldIn)
 
 -- One that goes on holding a sense that it has told.
 abbrev pub tellsAgain : StepFunction
-tellsAgain u c =
-    let o = outcome u c in
-    cond (isSenseOf (λ host. true) c)
-    (leaving (unitOf (o .unit .edition) (o .unit .drive) (o .unit .stopped) (o .unit .unsaved) (o .unit .slots) (u .held) (o .unit .out)) o)
-    o
+tellsAgain = onAccepted (λ u. isSense) heldKept
 
 -- One that "always reports Active": the bytes are those of an Active unit. The condition is in no other buffer, so no other call is touched.
 abbrev pub alwaysActive : StepFunction

@@ -21,8 +21,6 @@ use Rattle.engine.specs.Engine.{manufactureOutcome}
 use Rattle.refusals.specs.declared.Refusal.{Refusal}
 use Rattle.refusals.specs.declared.Refusal.the-variants.{BadRecord, OwnWaiting, IsStopped}
 use Rattle.refusals.specs.declared.Verdict.the-variants.{Given}
-use Rattle.unit.specs.declared.Held.{Held}
-use Rattle.unit.specs.declared.Held.the-variants.{Nothing, Holds}
 use Rattle.unit.specs.declared.Unit.{Unit}
 use Rattle.requests.specs.declared.Target.{Target}
 use Rattle.requests.specs.declared.Target.the-variants.{Stop, Start, GoTo}
@@ -47,7 +45,7 @@ use Rattle.runs.specs.Reports.{OneFate, EndReported, HeldTold, FailureTo
 use Rattle.runs.specs.Idle.{IdleRestarts}
 use Rattle.runs.specs.Commands.{AskedFor, CommandsSent}
 use Rattle.runs.specs.FlushCount.{FlushCount}
-use Rattle.runs.proofs.WrongPrograms.{flushesOnce, clearsMark, early, late, lifts, writesThrough, flushesAnyway, tickStarts, worksStopped, changesNothing, keepsPower, badFlushSaves, failureStarts, refusing, refusesAll, oneForAll, inventsCount, startParks, endsAtFlush, uncounts, owesStatus, swallows, mutes, forgets, reportsTwice, dropsAllHeld, tellsAgain, isDue, alwaysActive}
+use Rattle.runs.proofs.WrongPrograms.{flushesOnce, clearsMark, early, late, lifts, writesThrough, flushesAnyway, tickStarts, worksStopped, changesNothing, keepsPower, badFlushSaves, failureStarts, refusing, refusesAll, oneForAll, inventsCount, startParks, endsAtFlush, uncounts, owesStatus, swallows, mutes, forgets, reportsTwice, isHolding, dropsAllHeld, tellsAgain, isDue, alwaysActive}
 use Rattle.runs.proofs.Deeds.{Turn, starts, asks, answers, apart, turn}
 use Rattle.runs.proofs.Computed.{computed}
 
@@ -469,10 +467,6 @@ forgets-fails-held holds =
     omega arith
 
 -- and one that goes on being held is told more than once.
-abbrev isHolding : Held → Bool
-isHolding Nothing = false
-isHolding (Holds f) = true
-
 pub tells-again-fails-held : HeldTold tellsAgain → ⊥
 unfolding computed
 tells-again-fails-held holds =

@@ -6,4 +6,5 @@ pub mod FlushCount
 pub mod Commands
 pub mod Reports
 pub mod Idle
+pub mod Polls
 pub mod Entries

@@ -1,9 +1,9 @@
--- A value set at a host's place is there, and every other host has what it had.
-use mathlib.Core.Path.{_≡_, ap}
+-- A value set at a host's place is there, every other host has what it had, and where it was there already nothing changes.
+use mathlib.Core.Path.{_≡_, ap, sym, _∙_}
 use mathlib.Core.List.{List}
 use Prim.Native.Nat.{ℕ, _<_}
 use lib.ListN.{length, set}
-use lib.Seq.{getD-set-same, getD-set-other}
+use lib.Seq.{getD-set-same, getD-set-other, set-getD}
 use Rattle.unit.specs.Units.{emptySlot, noneHeld, slotOf, heldOf}
 use Rattle.unit.specs.declared.Slot.{Slot}
 use Rattle.unit.specs.declared.HostSlot.{HostSlot}
@@ -22,3 +22,6 @@ module _ (host k : ℕ) (other : k ≡ host → ⊥) where
 
   pub other-held : (helds : List HostHeld) (h : Held) → heldOf (set helds host (record { held = h })) k ≡ heldOf helds k
   other-held helds h = ap (λ (x : HostHeld). x .held) (getD-set-other helds host k (record { held = h }) noneHeld other)
+
+pub held-again : (helds : List HostHeld) (host : ℕ) (h : Held) → heldOf helds host ≡ h → set helds host (record { held = h }) ≡ helds
+held-again helds host h e = ap (λ (x : Held). set helds host (record { held = x })) (sym e) ∙ set-getD helds host noneHeld

@@ -37,8 +37,8 @@ copy-in-requires c κs =
     let full : length (now (v .before .before .before .before .args .buffer)) ≡ 18 = clear-length _ _ _ clear in
     omega arith
 
-sense-effect-requires : tie.Need-sense-effect-requires
-sense-effect-requires c κs = search needs
+with-held-requires : tie.Need-with-held-requires
+with-held-requires c κs = search needs
 
 settle-requires : tie.Need-settle-requires
 settle-requires c κs = search needs
@@ -63,7 +63,7 @@ returns c =
     rw (← v .before .before .unit-ok .ensures, ← v .before .is-out .ensures, ← v .sense-verdict .ensures) (told .before .enum-told .given .1) in
     let full : length (now (start .buffer)) ≡ 18 = clear-length _ _ _ clear in
     let whole = copied-whole (now (start .buffer)) (told .told .result) (omega (arith, told .told .ok)) in (
-      rw clear (c .settle .ensures (start .u) (senseEffect (start .host) (start .u)) (c .before .sense-effect .ensures)),
+      rw clear (c .settle .ensures (start .u) (senseEffect (start .host) (start .u)) (c .before .with-held .ensures)),
       rw (clear, copied .copy-in .ensures, whole) (told .told .ensures),
     )
 
@@ -87,7 +87,7 @@ request-sense-spec =
     told-requires
     slice-aggregate-copy-in
     copy-in-requires
-    sense-effect-requires
+    with-held-requires
     settle-requires
     enum-known-v
     settle-requires-2
