@@ -4,7 +4,7 @@ use mathlib.Core.Path.{_≡_, ap, refl, sym, _∙_}
 use mathlib.Core.Bool.{Bool, true, false, true≢false}
 use mathlib.Core.List.{List}
 use Prim.Native.Nat.{ℕ, _<_}
-use lib.ListN.{length, getD}
+use lib.ListN.{length, getD, set}
 use borrow.Author.Tests.{eq-eqb}
 use Rattle.rows.proofs.Places.{getD-mapAt}
 use Rattle.transitions.specs.Counts.{countsAfter}
@@ -90,11 +90,18 @@ still u c none other = on (verdictIn (outcome u c .said)) refl
     on (Given r) e = other-keeps u c r e other
 
 module _ (u : Unit) (host : ℕ) (buffer : List ℕ) where
-  -- Accepted, it changes nothing but what is held: the idle count too is as it was, whether a held sense was told or not. The record is written out,
-  -- so that no builder is taken at its word. (What is held: Hosts · others-spared, runs/Held · held-told.)
-  pub sense-leaves : verdictIn (outcome u (requestSense host buffer) .said) ≡ Clear → let v = step u (requestSense host buffer) in
-      v ≡ record { edition = u .edition; drive = u .drive; stopped = u .stopped; unsaved = u .unsaved; slots = u .slots; held = v .held; out = u .out }
-  sense-leaves e = rw (acceptance-does u (requestSense host buffer) e .0)
+  -- Accepted, it drops what is held for the host and changes nothing else: the idle count too is as it was, whether a sense was told or not. The record
+  -- is written out, so that no builder is taken at its word.
+  pub sense-leaves : verdictIn (outcome u (requestSense host buffer) .said) ≡ Clear → step u (requestSense host buffer) ≡ record {
+    edition = u .edition;
+    drive = u .drive;
+    stopped = u .stopped;
+    unsaved = u .unsaved;
+    slots = u .slots;
+    held = set (u .held) host (record { held = Nothing });
+    out = u .out;
+  }
+  sense-leaves e = acceptance-does u (requestSense host buffer) e .0
 
   -- One that finds nothing held, or is refused, changes no record.
   pub poll-still : (verdictIn (outcome u (requestSense host buffer) .said) ≡ Clear → heldOf (u .held) host ≡ Nothing)

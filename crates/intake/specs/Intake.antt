@@ -1,4 +1,5 @@
--- The format page's head: where the script comes from, and logcheck's page likewise; and which of the bytes that were read a turn of the program answers. Assumes nothing.
+-- The format page's head: where the script comes from, and logcheck's page likewise; and which of the bytes that were read a turn of the program
+-- answers. Assumes nothing.
 use mathlib.Core.Bool.{Bool, cond, _&&_}
 use Prim.Native.Nat.{ℕ, min}
 use lib.Dec.{eqb, ltb, leb}
