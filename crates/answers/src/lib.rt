@@ -1,4 +1,6 @@
 // Each call made over the face, and the line that it prints.
+#![tactic(auto)]
+
 ghost use Rattle.std.specs.Prelude.{map, ◌≡◌};
 ghost use Rattle.drive.specs.Drives.{maker_of};
 ghost use Rattle.readouts.specs.Readouts.{sense_outcome};
@@ -24,21 +26,21 @@ use requests::Reply;
 use unit::Unit;
 
 // The unit after a call, and what is said of it.
-#[derive(Drop)]
+#[derive(Clone, Copy)]
 pub struct Told {
     pub unit: Unit,
     pub text: Text,
 }
 
 // The unit after a call, and how far `out` is written.
-#[derive(Drop)]
+#[derive(Clone, Copy)]
 pub struct Printed {
     pub unit: Unit,
     pub at: usize,
 }
 
 // The log pages; those of published ACS-2 by their number.
-#[derive(Drop)]
+#[derive(Clone, Copy)]
 pub enum Page {
     Conditions,
     Transitions,

@@ -1,4 +1,6 @@
 // What a line of a script can ask for: a call, a line of a block, or what a word says that stands alone.
+#![tactic(auto)]
+
 ghost use Rattle.std.specs.Prelude.{◌≡◌, ◌≤◌};
 ghost use Rattle.conditions.specs.Conditions.{condition_at};
 ghost use Rattle.asked.specs.Editions.{edition_from};
@@ -12,7 +14,7 @@ use requests::Reply;
 use unit::{Held, Out, Slot};
 
 // A call that answers that it is done, or a refusal.
-#[derive(Drop)]
+#[derive(Clone, Copy)]
 pub enum PlainCall {
     Tick(u32),
     Epc(Registers),
@@ -24,7 +26,7 @@ pub enum PlainCall {
 }
 
 // A call; START STOP UNIT's bytes are read apart, since an enum holds no array.
-#[derive(Drop)]
+#[derive(Clone, Copy)]
 pub enum CallLine {
     Plain(PlainCall),
     StartStop(u32),
@@ -39,7 +41,7 @@ pub enum CallLine {
 }
 
 // What the line `state` sets.
-#[derive(Drop)]
+#[derive(Clone, Copy)]
 pub struct State {
     pub power: Power,
     pub idle: Tenths,
@@ -48,14 +50,14 @@ pub struct State {
 }
 
 // How often a condition was entered: by a timer, and otherwise.
-#[derive(Drop)]
+#[derive(Clone, Copy)]
 pub struct Entries {
     pub timer: u32,
     pub other: u32,
 }
 
 // What the line `counts` sets: a field a row of the table of counts, since an enum holds no array.
-#[derive(Drop)]
+#[derive(Clone, Copy)]
 pub struct Tally {
     pub active: Entries,
     pub a: Entries,
@@ -66,7 +68,7 @@ pub struct Tally {
 }
 
 // What one line of a `unit` block sets.
-#[derive(Drop)]
+#[derive(Clone, Copy)]
 pub enum Part {
     IsOf(Edition),
     Settings(Condition, Record),
@@ -78,7 +80,7 @@ pub enum Part {
 }
 
 // A line of a `unit` block sets a part of the record; one of a `make` block tells what manufacture makes of a condition.
-#[derive(Drop)]
+#[derive(Clone, Copy)]
 pub enum Line {
     Blank,
     Wrong,

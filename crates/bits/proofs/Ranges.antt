@@ -1,7 +1,7 @@
 -- Some bit of high:low is one exactly if one of the bits is that `span` lists. A range is its lowest bit and the range above that, so the proof is
 -- by induction on the width; what is said of the list is then said of each bit.
 use mathlib.Core.Path.{◌≡◌, refl, sym, ap, ◌∙◌}
-use mathlib.Core.Bool.{Bool, true, false, not, ◌&&◌, ◌||◌, or_true, or_assoc, true≢false}
+use mathlib.Core.Bool.{Bool, true, false, not, ◌&&◌, ◌||◌, or-true, or_assoc, true≢false}
 use mathlib.Core.List.{List, [], ◌∷◌, ◌++◌}
 use mathlib.Core.Logic.{inl, inr}
 use Prim.Native.Nat.{ℕ, zero, suc, ◌+◌, ◌-◌, ◌*◌, ◌/◌, ◌%◌, ◌^◌, ◌≤◌, ◌<◌, zero-le}
@@ -66,7 +66,7 @@ module _ (f : ℕ → Bool) where
   some_from (suc w) low at k from below holds =
       elim (eq-or-lt_of_le from) [
         | inl e ↦ rw (e, holds)
-        | inr h ↦ rw (some_from w (suc low) (suc at) k h (omega arith) holds) (or_true (f low))
+        | inr h ↦ rw (some_from w (suc low) (suc at) k h (omega arith) holds) (or-true (f low))
       ]
 
   none_from : (w low at : ℕ) → ((k : ℕ) → low ≤ k → k < low + w → f k ≡ false) → some_at (λ at k. f k) at (bits_from low w) ≡ false

@@ -1,1 +1,2 @@
 // No code: bits of a number, as the papers write them.
+#![tactic(auto)]

@@ -1,4 +1,6 @@
 // The blocks of a script, `unit` and `make`: what their lines set, and the session that they stand in.
+#![tactic(auto)]
+
 ghost use Rattle.std.specs.Prelude.{◌≡◌};
 ghost use Rattle.asked.specs.declared.Line.TheVariants.{Sets, Tells};
 ghost use Rattle.asked.specs.declared.Part.TheVariants.{IsOf, Settings, Stands, HasCounts};
@@ -12,7 +14,7 @@ use drive::{Drive, Edition, Record};
 use unit::Unit;
 
 // Which block is open: none, or that of `unit` or of `make`.
-#[derive(Drop)]
+#[derive(Clone, Copy)]
 pub enum Block {
     NoBlock,
     UnitBlock,
@@ -21,7 +23,7 @@ pub enum Block {
 
 // A run of a script: its unit and, while a block is open, whether all its lines were good, and the record that they plan: what a `unit` block sets
 // up, or what manufacture makes of a `make` block.
-#[derive(Drop)]
+#[derive(Clone, Copy)]
 pub struct Session {
     pub unit: Unit,
     pub block: Block,

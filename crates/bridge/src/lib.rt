@@ -1,4 +1,6 @@
 // START STOP UNIT for four hosts over one ATA drive (T10 07-485r3): a CDB is accepted, and its operation waits.
+#![tactic(auto)]
+
 ghost use Rattle.std.specs.Prelude.{cond, ◌≡◌};
 ghost use Rattle.bridge.specs.Bridge.{start_stop_outcome};
 ghost use Rattle.bridge.specs.Inner.{slot_for, acceptance_of};
@@ -9,7 +11,7 @@ use operations::Acceptance;
 use refusals::Verdict;
 use unit::{Slot, Unit};
 
-#[derive(Drop)]
+#[derive(Clone, Copy)]
 pub struct StartStopped {
     pub answer: Acceptance,
     pub unit: Unit,

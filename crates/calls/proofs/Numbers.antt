@@ -1,7 +1,7 @@
 -- Document 01, "Numbers given back": a number is given exactly when its row applies and none before it does, over all calls.
 -- Each call's own rows are those of the table whose test is not `false` for it, so the lowest of both is the same.
 use mathlib.Core.Path.{◌≡◌, refl, sym, ◌∙◌}
-use mathlib.Core.Bool.{Bool, true, false, cond, ◌&&◌, and-true, and-false, or_false, false≢true, true≢false}
+use mathlib.Core.Bool.{Bool, true, false, cond, ◌&&◌, and-true, and-false, or-false, false≢true, true≢false}
 use mathlib.Core.List.{List}
 use mathlib.Core.Logic.{◌↔◌}
 use Prim.Native.Nat.{ℕ, ◌-◌}
@@ -54,7 +54,7 @@ own_rows_lem u power_on = simp and-false
 own_rows_lem u hard_reset = simp and-false
 own_rows_lem u soft_reset = simp and-false
 own_rows_lem u (start_stop host cdb) = simp (and-true, and-false)
-own_rows_lem u (next host) = simp (and-true, and-false, or_false)
+own_rows_lem u (next host) = simp (and-true, and-false, or-false)
 own_rows_lem u (answer host reply) = simp and-false
 own_rows_lem u (request_sense host buffer) = simp (and-true, and-false)
 own_rows_lem u (log_page buffer) = simp and-false

@@ -1,1 +1,2 @@
 // Definitions and theorems over all calls; this crate has no code of its own.
+#![tactic(auto)]

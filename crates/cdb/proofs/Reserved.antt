@@ -1,7 +1,7 @@
 -- "Reserved bits must be zero (H).": the bits that document 01 names, byte by byte, and that every other bit of bytes 1 to 4 is number 8's. The
 -- ranges of the definition are counted out bit by bit (bits/Ranges) and are, byte by byte, the bits that are not named.
 use mathlib.Core.Path.{◌≡◌, refl, ◌∙◌}
-use mathlib.Core.Bool.{Bool, true, false, not, ◌||◌, or_true, or_false, or_assoc}
+use mathlib.Core.Bool.{Bool, true, false, not, ◌||◌, or-true, or-false, or_assoc}
 use mathlib.Core.List.{List, [], ◌∷◌, ◌++◌}
 use Prim.Native.Nat.{ℕ, ◌≤◌, ◌<◌, suc-le-suc}
 use native.Mathlib.Nat.{le_of_suc-le-suc}
@@ -44,7 +44,7 @@ whole b h =
     rw e
 
 joined : {a b c d e f g h : Bool} → a ≡ e → b ≡ f → c ≡ g → d ≡ h → (a || b || c || d) ≡ (e || (f || (g || (h || false))))
-joined {e} {f} {g} {h} p q r s = rw (p, q, r, s, or_false h, or_assoc (e || f) g h, or_assoc e f (g || h))
+joined {e} {f} {g} {h} p q r s = rw (p, q, r, s, or-false h, or_assoc (e || f) g h, or_assoc e f (g || h))
 
 -- A reserved bit is one exactly if, of bits 7:0 of bytes 1 to 4, one is that is not named.
 pub reserved_exactly : (cdb : List ℕ) → byte 2 cdb < 256 → reserved_in_cdb cdb ≡ some_at (λ at i. some_unnamed 7 (named_in i) (byte i cdb)) 0 (span 4 1)
@@ -62,7 +62,7 @@ reserved_unlisted rs cdb i k from to below unnamed one = rw (found (eqb (byte 2 
         reserved_exactly cdb (let z = eqb-true (byte 2 cdb) 0 e in omega arith)
         ∙ some_in (λ i. some_unnamed 7 (named_in i) (byte i cdb)) 4 1 i from to
         (unnamed_one 7 (named_in i) (byte i cdb) k (le_of_suc-le-suc below) unnamed one)
-    found false e = rw (e, or_true (some_one 7 1 (byte 1 cdb)))
+    found false e = rw (e, or-true (some_one 7 1 (byte 1 cdb)))
 
 -- And no other: with every bit zero that is not named, no reserved bit is one.
 pub unreserved : (cdb : List ℕ) → byte 2 cdb < 256

@@ -1,4 +1,6 @@
 // The CDB of START STOP UNIT (T10 07-485r3, 08-184): what its bytes ask for. No unit is needed.
+#![tactic(auto)]
+
 ghost use Rattle.std.specs.Prelude.{cond, not, ◌&&◌, ◌≡◌};
 ghost use Rattle.requests.specs.declared.Stage.TheVariants.{Straight, Flushing};
 ghost use Rattle.requests.specs.declared.Target.TheVariants.{Stop, Start};
@@ -11,7 +13,7 @@ use drive::Record;
 use requests::{Request, Stage, Target};
 
 // What a CDB asks for.
-#[derive(Drop)]
+#[derive(Clone, Copy)]
 pub enum Wanted {
     Unlisted,
     Wants(Target),

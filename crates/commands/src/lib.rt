@@ -1,4 +1,6 @@
 // The lines that make a call, read: each as the call that it asks for.
+#![tactic(auto)]
+
 ghost use Rattle.std.specs.Prelude.{◌≡◌, ◌≤◌, take};
 ghost use Rattle.words.specs.Lines.{line_in};
 ghost use Rattle.commands.specs.Commands;
@@ -10,7 +12,7 @@ use requests::Reply;
 use words::Number;
 
 // START STOP UNIT's bytes.
-#[derive(Drop)]
+#[derive(Clone, Copy)]
 pub struct ReadCdb {
     pub good: bool,
     pub bytes: [u8; 40],

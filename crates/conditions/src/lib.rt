@@ -1,9 +1,11 @@
 // The power conditions of a drive and their order in falling power.
+#![tactic(auto)]
+
 ghost use Rattle.std.specs.Prelude.{◌≡◌, ◌<◌};
 ghost use Rattle.conditions.specs.Conditions.{place_of, condition_at, depth};
 
 // The five conditions, in falling power.
-#[derive(Drop)]
+#[derive(Clone, Copy)]
 pub enum Condition {
     IdleA,
     IdleB,
@@ -13,14 +15,14 @@ pub enum Condition {
 }
 
 // What brought the drive below Active.
-#[derive(Drop)]
+#[derive(Clone, Copy)]
 pub enum Cause {
     Timer,
     Command,
 }
 
 // Active has no cause: the type keeps that clause of "well formed".
-#[derive(Drop)]
+#[derive(Clone, Copy)]
 pub enum Power {
     Active,
     Low(Condition, Cause),

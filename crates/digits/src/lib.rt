@@ -1,4 +1,6 @@
 // A line of text that is being written: numbers and bytes as digits.
+#![tactic(auto)]
+
 ghost use Rattle.std.specs.Prelude.{cond, [], ◌∷◌, ◌++◌, ◌≡◌, ◌+◌, ◌*◌, ◌≤◌, ◌<◌, leb, length};
 ghost use Rattle.std.proofs.Math.Seq.{paste};
 ghost use Rattle.digits.specs.Numerals;
@@ -8,7 +10,7 @@ ghost use Rattle.digits.specs.Sheets.{sheet, wrote, line_text};
 ghost use Rattle.digits.specs.Texts.{said, cut, written_at, after};
 
 // Each line but a byte string has fewer than 128 bytes.
-#[derive(Drop)]
+#[derive(Clone, Copy)]
 pub struct Text {
     pub bytes: [u8; 128],
     pub len: usize,

@@ -1,6 +1,6 @@
 -- A record's numbers: timers that are set pass, and zero numbers do.
 use mathlib.Core.Path.{◌≡◌, refl}
-use mathlib.Core.Bool.{Bool, true, false, not, ◌&&◌, and-true, and-false, or_true, or_false}
+use mathlib.Core.Bool.{Bool, true, false, not, ◌&&◌, and-true, and-false, or-true, or-false}
 use Prim.Native.Nat.{ℕ}
 use lib.Dec.{leb, eqb, leb-zero}
 use borrow.Author.Tests.{eqb-true, ne_eqb, not-true}
@@ -43,15 +43,15 @@ unsupported_fine top r h = rw h (by (others_zero r) refl)
 
 -- A timer of zero is within any bound, and its flag decides; of any other the bound does.
 pub zero_timer : (top : ℕ) (s : Setting) → s.timer.0 ≡ 0 → not s.enabled ≡ setting_well_formed top s
-zero_timer top s e = simp (e, leb-zero, or_false)
+zero_timer top s e = simp (e, leb-zero, or-false)
 
 pub some_timer : (top : ℕ) (s : Setting) → (s.timer.0 ≡ 0 → ⊥) → leb s.timer.0 top ≡ setting_well_formed top s
-some_timer top s other = simp (ne_eqb s.timer.0 0 other, or_true, and-true)
+some_timer top s other = simp (ne_eqb s.timer.0 0 other, or-true, and-true)
 
 -- A setting whose timer is set within its bound is fine, on or off.
 set_fine : (top : ℕ) (s : Setting) → set_within top s ≡ true → setting_well_formed top s ≡ true
 set_fine top s h =
-    rw (and_right (not (eqb s.timer.0 0)) (leb s.timer.0 top) h, and_left (not (eqb s.timer.0 0)) (leb s.timer.0 top) h, or_true)
+    rw (and_right (not (eqb s.timer.0 0)) (leb s.timer.0 top) h, and_left (not (eqb s.timer.0 0)) (leb s.timer.0 top) h, or-true)
 
 -- Where the timers are set the recovery time decides.
 pub timers_set_fine : (top : ℕ) (r : Record) → timers_set top r ≡ true → numbers_well_formed top r ≡ leb r.recovery.0 largest_recovery

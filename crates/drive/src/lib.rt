@@ -1,4 +1,6 @@
 // The power conditions of one drive (T13 e08120r9, published ACS-2), without registers: settings, timers and the condition the drive is in.
+#![tactic(auto)]
+
 ghost use Rattle.std.specs.Prelude.{cond, ◌≡◌, ◌≤◌};
 ghost use Rattle.rows.specs.Rows.{map_at};
 ghost use Rattle.drive.specs.Drives.{with_settings, with_records, with_idle, with_counts, entered, restarted, counted, ran_out, timers_ask, by_timer, fallen, used, saved_restored, powered_on, made_record};
@@ -9,28 +11,28 @@ ghost use Rattle.drive.specs.Records.{largest_timer, setting_well_formed, number
 use conditions::{Cause, Power};
 
 // The edition of the standard that the drive follows: e08120r9, the draft, or published ACS-2 (document 02, request (vi)).
-#[derive(Drop)]
+#[derive(Clone, Copy)]
 pub enum Edition {
     Draft,
     Published,
 }
 
 // Timers and the idle count: tenths of a second. 32 bits: published timers need them, and a number above the largest can be said and refused.
-#[derive(Drop)]
+#[derive(Clone, Copy)]
 pub struct Tenths(pub u32);
 
 // Recovery times: milliseconds.
-#[derive(Drop)]
+#[derive(Clone, Copy)]
 pub struct Millis(pub u32);
 
-#[derive(Drop)]
+#[derive(Clone, Copy)]
 pub struct Setting {
     pub enabled: bool,
     pub timer: Tenths,
 }
 
 // A condition's record.
-#[derive(Drop)]
+#[derive(Clone, Copy)]
 pub struct Record {
     pub supported: bool,
     pub saveable: bool,
@@ -42,7 +44,7 @@ pub struct Record {
 }
 
 // The transition counts are "kept flat inside the record", and go as a table of six rows of two between functions.
-#[derive(Drop)]
+#[derive(Clone, Copy)]
 pub struct Drive {
     pub records: [Record; 5],
     pub power: Power,
@@ -51,7 +53,7 @@ pub struct Drive {
 }
 
 // What the maker says of a condition.
-#[derive(Drop)]
+#[derive(Clone, Copy)]
 pub struct Made {
     pub supported: bool,
     pub saveable: bool,

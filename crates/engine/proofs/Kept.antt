@@ -1,6 +1,6 @@
 -- A record made of picked fields is the one that was picked: by the flag, whether it is kept.
 use mathlib.Core.Path.{◌≡◌, refl, ap}
-use mathlib.Core.Bool.{Bool, true, false, not, ◌&&◌, ◌||◌, cond, and-true, and-false, or_true, or_false}
+use mathlib.Core.Bool.{Bool, true, false, not, ◌&&◌, ◌||◌, cond, and-true, and-false, or-true, or-false}
 use Prim.Native.Nat.{ℕ}
 use Rattle.drive.proofs.Kept.{entered_kept}
 use Rattle.drive.specs.Drives.{with_idle, entered, counted, timers_ask, fallen, ticked, used, powered_on}
@@ -38,8 +38,8 @@ read_kept false u = refl
 -- "a write also sets the unsaved mark."
 pub write_kept : (kept : Bool) (u : Unit)
     → with_marks u.stopped (u.unsaved || not kept) (cond kept u (read_effect u)) ≡ cond kept u (write_effect u)
-write_kept true u = rw or_false
-write_kept false u = rw or_true
+write_kept true u = rw or-false
+write_kept false u = rw or-true
 
 abbrev on : Bool → Unit → Unit
 on kept u = with_marks (u.stopped && kept) (u.unsaved && kept) (with_drive (cond kept u.drive (powered_on u.drive)) u)

@@ -1,4 +1,6 @@
 // The calls on a unit that need no START STOP UNIT and no buffer: manufacture, EPC, ticks, the medium, resets.
+#![tactic(auto)]
+
 ghost use Rattle.std.specs.Prelude.{cond, ◌≡◌, ◌≤◌};
 ghost use Rattle.drive.specs.Drives.{by_timer, fallen};
 ghost use Rattle.engine.specs.Engine.{epc_effect, epc_refused, epc_outcome, manufacture_outcome, tick_outcome, read_effect, read_outcome, write_effect, write_outcome, power_on_effect, power_on_outcome, hard_reset_effect, reset_outcome};

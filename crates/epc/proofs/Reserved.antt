@@ -1,7 +1,7 @@
 -- "Bits not named are reserved": the LBA bits that the table names, row by row, and that the abort knows every other one of bits 0 to 31. The
 -- ranges of the definition are counted out bit by bit (bits/Ranges) and are, for each edition and subcommand number, the bits that its row leaves.
 use mathlib.Core.Path.{◌≡◌, refl, sym, subst, ◌∙◌}
-use mathlib.Core.Bool.{true, false, ◌&&◌, ◌||◌, or_false}
+use mathlib.Core.Bool.{true, false, ◌&&◌, ◌||◌, or-false}
 use mathlib.Core.List.{List, [], ◌∷◌, ◌++◌}
 use Prim.Native.Nat.{ℕ, ◌<◌}
 use native.Mathlib.Omega.{arith}
@@ -71,7 +71,7 @@ reserved_exactly e lba =
 
 -- Where bit 7 is zero, bit 6 alone is reserved below the timer.
 below_timer : (e : Edition) (lba : ℕ) → bit 7 lba ≡ false → reserved_below e lba ≡ bit 6 lba
-below_timer Draft lba zero = range 7 6 lba ∙ rw zero (or_false (bit 6 lba))
+below_timer Draft lba zero = range 7 6 lba ∙ rw zero (or-false (bit 6 lba))
 below_timer Published lba zero = refl
 
 module _ (e f : Edition) where

@@ -1,4 +1,6 @@
 // The registers of SET FEATURES EPC (T13 e08120r9, published ACS-2): what they select, when they abort, what they change.
+#![tactic(auto)]
+
 ghost use Rattle.std.specs.Prelude.{cond, ◌≡◌};
 ghost use Rattle.rows.specs.Rows.{some_at, map_at};
 ghost use Rattle.drive.specs.Drives.{with_settings, entered};
@@ -11,7 +13,7 @@ use conditions::{Cause, Condition, Power};
 use drive::{Drive, Edition, Record, Setting, Tenths};
 use registers::{Named, Registers};
 
-#[derive(Drop)]
+#[derive(Clone, Copy)]
 pub enum Sub {
     Restore,
     GoTo,
@@ -115,7 +117,7 @@ fn barred(goes: bool, save: bool, r: Record) -> bool
 }
 
 // What the conditions that FFh selects say together: whether there is one, and whether one of them bars the subcommand.
-#[derive(Drop)]
+#[derive(Clone, Copy)]
 struct Seen {
     some: bool,
     barred: bool,

@@ -1,4 +1,6 @@
 // A host's next command, and the drive's answer to it (T10 07-485r3, 05-226r3).
+#![tactic(auto)]
+
 ghost use Rattle.std.specs.Prelude.{cond, ◌≡◌, ℕ};
 ghost use Rattle.exchange.specs.Exchange.{next_effect, next_outcome, answer_on, answer_settled, answer_outcome};
 ghost use Rattle.exchange.specs.Answered.{flushed_well, failed, succeeded, flush_answered, last_answered, answered_for};
@@ -13,13 +15,13 @@ use refusals::{Refusal, Verdict};
 use requests::{Failure, Reply, Request};
 use unit::{Held, Out, Slot, Unit};
 
-#[derive(Drop)]
+#[derive(Clone, Copy)]
 pub struct Asked {
     pub answer: Next,
     pub unit: Unit,
 }
 
-#[derive(Drop)]
+#[derive(Clone, Copy)]
 pub struct Replied {
     pub answer: Progress,
     pub unit: Unit,
@@ -70,7 +72,7 @@ pub fn next_command(u: Unit, host: u32) -> Asked
 
 // What an answer leaves, and what it tells. Where it is not taken, idle count, slot and what is out stay; power and marks are given either way.
 // `held` is a sense to hold now; with Nothing, what the host holds stays.
-#[derive(Drop)]
+#[derive(Clone, Copy)]
 struct After {
     taken: bool,
     power: Power,

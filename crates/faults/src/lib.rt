@@ -1,5 +1,7 @@
 // What a page of another maker says, and what is wrong with it (document 02, request (v)): the work, on the page where it lies.
 // A function here that takes a page asks for 512 bytes; the calls that take any page stand in `reader`.
+#![tactic(auto)]
+
 ghost use Rattle.std.specs.Prelude.{◌≡◌, ◌-◌, ◌*◌, ◌<◌, ◌≤◌, min, [], map, length};
 ghost use Rattle.conditions.specs.Conditions.{condition_at};
 ghost use Rattle.pages.specs.Readings.{page_word, page_setting, record_from, page_record};
@@ -11,7 +13,7 @@ ghost use Rattle.faults.specs.Tests.{kind_number, is_set_unsupported, is_same_se
 use drive::{Millis, Record, Setting, Tenths};
 
 // What can be wrong at a word: request (v)'s kinds, in its order.
-#[derive(Drop)]
+#[derive(Clone, Copy)]
 pub enum FaultKind {
     ReservedWord,
     ReservedBits,
@@ -21,14 +23,14 @@ pub enum FaultKind {
 }
 
 // A fault: its kind, and the place of its word.
-#[derive(Drop)]
+#[derive(Clone, Copy)]
 pub struct Fault {
     pub kind: FaultKind,
     pub place: u32,
 }
 
 // How many faults a page has, and the first 64; kind 0 at word 0 fills the places after the last.
-#[derive(Drop)]
+#[derive(Clone, Copy)]
 pub struct Faults {
     pub total: u32,
     pub listed: [Fault; 64],

@@ -1,4 +1,6 @@
 // What is found on a page that another maker wrote: the calls made over the face, and the lines that they print.
+#![tactic(auto)]
+
 ghost use Rattle.std.specs.Prelude.{map, ◌≡◌};
 ghost use Rattle.digits.specs.Sheets.{sheet, wrote_all};
 ghost use Rattle.digits.specs.Texts.{said, cut};

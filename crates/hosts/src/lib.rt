@@ -1,4 +1,6 @@
 // The lines of a set-up block that are the hosts', read: `slot`, `held` and `out`, each as the part of a record that it sets.
+#![tactic(auto)]
+
 ghost use Rattle.std.specs.Prelude.{◌≡◌};
 ghost use Rattle.hosts.specs.Hosts.{is_none, target_from, stage_from, is_stage, request_in, spells, failure_in, slot_line, held_line, out_line};
 ghost use Rattle.requests.specs.Requests.{failure_sense};
@@ -8,7 +10,7 @@ use requests::{Failure, Request, Stage, Target};
 use unit::{Held, Out, Slot};
 
 // What some of a line's words spell, if they spell it.
-#[derive(Drop)]
+#[derive(Clone, Copy)]
 pub struct ReadRequest {
     pub good: bool,
     pub value: Request,

@@ -1,9 +1,11 @@
 // What a program reads: where its input comes from, and which of the bytes that replay has read it answers next.
+#![tactic(auto)]
+
 ghost use Rattle.std.specs.Prelude.{cond, ◌≡◌};
 ghost use Rattle.intake.specs.Intake.{source_of, clamped, is_answered, pace_next};
 
 // Where the input comes from: standard input, or the file that an argument names. The program may be misused.
-#[derive(Drop)]
+#[derive(Clone, Copy)]
 pub enum Source {
     Standard,
     File(usize),
@@ -11,7 +13,7 @@ pub enum Source {
 }
 
 // The places of the input buffer between which bytes stand that were read and not answered, and whether the program goes on.
-#[derive(Drop)]
+#[derive(Clone, Copy)]
 pub struct Pace {
     pub from: usize,
     pub to: usize,

@@ -1,4 +1,6 @@
 // Reads a log page of another maker, for the test bench, and writes the report of it. What stands in the report, `report` decides.
+#![tactic(auto)]
+
 use intake::Source;
 use libc::{STDERR_FILENO, STDIN_FILENO, STDOUT_FILENO};
 

@@ -1,4 +1,6 @@
 // An operation's commands, the answers that hosts and the drive give about it, and its end report. No unit is needed.
+#![tactic(auto)]
+
 ghost use Rattle.std.specs.Prelude.{cond, ◌≡◌};
 ghost use Rattle.operations.specs.Operations.{accepted_as, registers_of, last_of, due_at, due_from, is_flush, one_more, flushes_of, report_good, report_failed, parked_in, reached, is_stop, is_good, failure_of, flush_counted};
 ghost use Rattle.operations.specs.declared.Status.TheVariants.{NoStatus};
@@ -10,7 +12,7 @@ use registers::Registers;
 use requests::{Failure, Reply, Request, Stage, Target};
 
 // The command that an operation is due to send.
-#[derive(Drop)]
+#[derive(Clone, Copy)]
 pub enum Due {
     Flush,
     StandbyImmediate,
@@ -19,7 +21,7 @@ pub enum Due {
 }
 
 // START STOP UNIT's answer: accepted with GOOD due at once or with the last answer, or refused.
-#[derive(Drop)]
+#[derive(Clone, Copy)]
 pub enum Acceptance {
     GoodDue,
     Pending,
@@ -27,14 +29,14 @@ pub enum Acceptance {
 }
 
 // The answer to a host that asks for its next command.
-#[derive(Drop)]
+#[derive(Clone, Copy)]
 pub enum Next {
     Send(Registers),
     NotSent(Refusal),
 }
 
 // The status that an operation's end gives its host; with IMMED it had GOOD on acceptance.
-#[derive(Drop)]
+#[derive(Clone, Copy)]
 pub enum Status {
     NoStatus,
     GoodStatus,
@@ -42,7 +44,7 @@ pub enum Status {
 }
 
 // The end report. Beside no status, a sense is one that is now held.
-#[derive(Drop)]
+#[derive(Clone, Copy)]
 pub struct Report {
     pub status: Status,
     pub sense: SenseDue,
@@ -50,7 +52,7 @@ pub struct Report {
 }
 
 // What an answer leaves of its operation: more to send, or its end.
-#[derive(Drop)]
+#[derive(Clone, Copy)]
 pub enum Progress {
     More,
     Ended(Report),

@@ -1,4 +1,6 @@
 // What a call leaves that tells no more than whether it was done.
+#![tactic(auto)]
+
 ghost use Rattle.std.specs.Prelude.{cond, ◌≡◌};
 ghost use Rattle.refusals.specs.Refusals.{is_given};
 ghost use Rattle.unit.specs.declared.Unit.{Unit};
@@ -7,7 +9,7 @@ ghost use Rattle.outcomes.specs.Settled.{settled};
 use refusals::{Answer, Verdict};
 use unit::Unit;
 
-#[derive(Drop)]
+#[derive(Clone, Copy)]
 pub struct Called {
     pub answer: Answer,
     pub unit: Unit,

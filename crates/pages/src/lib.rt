@@ -1,4 +1,6 @@
 // The bytes of the Power Conditions log page, from five records. No unit is needed.
+#![tactic(auto)]
+
 ghost use Rattle.std.specs.Prelude.{cond, [], ◌∷◌, ◌≡◌, ◌+◌, ◌/◌, ◌%◌, ◌≤◌};
 ghost use Rattle.pages.specs.Logs.{bytes_of, flag_at, timer_word, named_words, log_bytes};
 

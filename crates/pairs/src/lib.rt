@@ -1,4 +1,6 @@
 // The lines that have a page read that another maker wrote: the words `W=V` on them, and the page that these make.
+#![tactic(auto)]
+
 ghost use Rattle.std.specs.Prelude.{◌≡◌, ◌+◌, ◌<◌, ◌≤◌, min, drop, length, take};
 ghost use Rattle.words.specs.Words.{words};
 ghost use Rattle.pairs.specs.Pairs.{before_equals, pair_in, are_pairs, zeros, with_pairs, page_of, faults_line, record_line};
@@ -6,7 +8,7 @@ ghost use Rattle.pairs.specs.Pairs.{before_equals, pair_in, are_pairs, zeros, wi
 use asked::{CallLine, Line};
 
 // A page's word and its value, as `W=V` spells them.
-#[derive(Drop)]
+#[derive(Clone, Copy)]
 pub struct Pair {
     pub good: bool,
     pub place: u32,
@@ -14,14 +16,14 @@ pub struct Pair {
 }
 
 // Whether all pairs are well written, and what they make of the longest page.
-#[derive(Drop)]
+#[derive(Clone, Copy)]
 pub struct ReadPairs {
     pub good: bool,
     pub bytes: [u8; 1024],
 }
 
 // A page: the first `len` of these bytes.
-#[derive(Drop)]
+#[derive(Clone, Copy)]
 pub struct LinePage {
     pub bytes: [u8; 1024],
     pub len: usize,

@@ -1,4 +1,6 @@
 // The lines of a block that are the drive's, read: `ed`, `c`, `state` and `counts`, each as the part of a record that it sets, and `m` of a `make` block.
+#![tactic(auto)]
+
 ghost use Rattle.std.specs.Prelude.{◌≡◌, ◌≤◌};
 ghost use Rattle.parts.specs.Parts.{setting_in, record_in, cause_from, power_from, is_power, condition_line, state_line, entries_in, tally_in, counts_line, edition_line, made_in, maker_line};
 
@@ -7,25 +9,25 @@ use conditions::{Cause, Power};
 use drive::{Millis, Record, Setting, Tenths};
 
 // What some of a line's words spell, if they spell it.
-#[derive(Drop)]
+#[derive(Clone, Copy)]
 pub struct ReadSetting {
     pub good: bool,
     pub value: Setting,
 }
 
-#[derive(Drop)]
+#[derive(Clone, Copy)]
 pub struct ReadRecord {
     pub good: bool,
     pub value: Record,
 }
 
-#[derive(Drop)]
+#[derive(Clone, Copy)]
 pub struct ReadEntries {
     pub good: bool,
     pub value: Entries,
 }
 
-#[derive(Drop)]
+#[derive(Clone, Copy)]
 pub struct ReadTally {
     pub good: bool,
     pub value: Tally,

@@ -1,4 +1,6 @@
 // What is said of each answer of a call.
+#![tactic(auto)]
+
 ghost use Rattle.std.specs.Prelude.{◌++◌, ◌≡◌};
 ghost use Rattle.digits.specs.Texts.{said, cut};
 ghost use Rattle.phrases.specs.Phrases;

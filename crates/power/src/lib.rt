@@ -1,5 +1,6 @@
 // The face of the layer: every public call and type, in the order of document 01. A public call is one that is named here.
 // A call that changes the unit takes its record by value and hands it back; none has a `requires`.
+#![tactic(auto)]
 
 // Conditions and settings.
 pub use conditions::{Cause, Condition, Power, place_of};

@@ -1,4 +1,6 @@
 // The bytes of the two log pages of published ACS-2, from five records (document 02, request (vi)). No unit is needed.
+#![tactic(auto)]
+
 ghost use Rattle.std.specs.Prelude.{◌≡◌};
 ghost use Rattle.published.specs.Descriptors.{flag_byte, tenths_up, low_first, named_bytes, descriptor_page, lacks_page};
 

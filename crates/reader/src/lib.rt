@@ -1,5 +1,7 @@
 // A reader that looks at another maker's log page where it lies, and copies nothing (document 02, request (v)): what a condition's record is there,
 // and what is wrong with the page.
+#![tactic(auto)]
+
 ghost use Rattle.std.specs.Prelude.{◌≡◌};
 ghost use Rattle.conditions.specs.Conditions.{condition_at};
 ghost use Rattle.reader.specs.PageCalls.{record_outcome, faults_outcome};
@@ -10,21 +12,21 @@ use faults::Faults;
 use refusals::{Answer, Refusal, Verdict};
 
 // The page where it lies, and the place of a condition in falling power. A place above 4 is read as the first.
-#[derive(Drop)]
+#[derive(Clone, Copy)]
 pub struct Reader<'a> {
     pub page: &'a [u8],
     pub place: usize,
 }
 
 // A condition's record as the page has it.
-#[derive(Drop)]
+#[derive(Clone, Copy)]
 pub enum PageRecord {
     Found(Record),
     NotRead(Refusal),
 }
 
 // What is wrong with a page. Beside a refusal the list is empty and says nothing of the page: the answer tells.
-#[derive(Drop)]
+#[derive(Clone, Copy)]
 pub struct Checked {
     pub answer: Answer,
     pub faults: Faults,

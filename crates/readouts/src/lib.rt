@@ -1,4 +1,6 @@
 // REQUEST SENSE and the log pages, the calls that write into a lent buffer; and the transition counts by value.
+#![tactic(auto)]
+
 ghost use Rattle.std.specs.Prelude.{◌≡◌};
 ghost use Rattle.readouts.specs.Readouts.{told_bytes, sense_outcome, log_outcome, counts_handed, transitions_outcome, new_page_outcome};
 ghost use Rattle.unit.specs.Units.{held_of};

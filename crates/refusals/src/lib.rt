@@ -1,5 +1,7 @@
 // Why a call is refused: the numbers of documents 01 and 02, the sense that goes with each, and the verdict over the rows that a call is held to.
 // No unit is needed.
+#![tactic(auto)]
+
 ghost use Rattle.std.specs.Prelude.{[], ◌∷◌, ◌≡◌};
 ghost use Rattle.refusals.specs.Refusals.{number_of, sense_of, ◌gives◌, lowest, or_else, is_given, answer_of};
 ghost use Rattle.refusals.specs.Verdicts.{rows_of_host, rows_of_record, rows_of_epc, rows_of_medium, rows_of_sense, rows_of_page, rows_of_new_page, rows_of_reader, rows_of_cdb, rows_of_start_stop, rows_of_next, rows_of_answer};
@@ -8,7 +10,7 @@ ghost use Rattle.refusals.specs.declared.SenseDue.TheVariants.{WithSense};
 use senses::Sense;
 
 // Why a call was refused: document 01's numbers 1 to 10, and document 02's 11, in the order in which they are looked at.
-#[derive(Drop)]
+#[derive(Clone, Copy)]
 pub enum Refusal {
     BadLength,
     BadHost,
@@ -24,21 +26,21 @@ pub enum Refusal {
 }
 
 // The sense that goes with an answer.
-#[derive(Drop)]
+#[derive(Clone, Copy)]
 pub enum SenseDue {
     NoSense,
     WithSense(Sense),
 }
 
 // Whether a call is refused.
-#[derive(Drop)]
+#[derive(Clone, Copy)]
 pub enum Verdict {
     Clear,
     Given(Refusal),
 }
 
 // The answer of a call that tells no more than whether it was done.
-#[derive(Drop)]
+#[derive(Clone, Copy)]
 pub enum Answer {
     Done,
     Refused(Refusal),

@@ -1,11 +1,13 @@
 // The registers of an ATA command, and the Count codes of the conditions.
+#![tactic(auto)]
+
 ghost use Rattle.std.specs.Prelude.{◌≡◌};
 ghost use Rattle.registers.specs.Commands.{ata_command, named, count_code};
 
 use conditions::Condition;
 
 // The registers of one ATA command. LBA comes as 32 bits.
-#[derive(Drop)]
+#[derive(Clone, Copy)]
 pub struct Registers {
     pub command: u8,
     pub feature: u8,
@@ -14,7 +16,7 @@ pub struct Registers {
 }
 
 // What Count names.
-#[derive(Drop)]
+#[derive(Clone, Copy)]
 pub enum Named {
     One(Condition),
     Every,

@@ -1,4 +1,6 @@
 // Reads a script of calls and writes what each answered: docs/replay.md. What is read, and what is answered when, `intake` and `stream` decide.
+#![tactic(auto)]
+
 ghost use Rattle.std.specs.Prelude.{◌≤◌, length};
 
 use intake::Source;

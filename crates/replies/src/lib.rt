@@ -1,4 +1,6 @@
 // What each line of a script gets for an answer.
+#![tactic(auto)]
+
 ghost use Rattle.std.specs.Prelude.{◌≡◌, false};
 ghost use Rattle.digits.specs.Sheets.{sheet, wrote_all};
 ghost use Rattle.asked.specs.declared.Line.TheVariants.{Asks};
@@ -11,7 +13,7 @@ use asked::{CallLine, Line};
 use blocks::{Block, Session};
 
 // The session after a line, and how far `out` is written.
-#[derive(Drop)]
+#[derive(Clone, Copy)]
 pub struct Step {
     pub session: Session,
     pub at: usize,

@@ -1,4 +1,6 @@
 // The report of another maker's log page, for the test bench: its settings as replay's `table` prints them, its faults in words, and how many.
+#![tactic(auto)]
+
 ghost use Rattle.std.specs.Prelude.{◌++◌, map, ◌≡◌, ◌<◌};
 ghost use Rattle.conditions.specs.Conditions.{condition_at};
 ghost use Rattle.digits.specs.Sheets.{sheet, wrote_all, line_text};

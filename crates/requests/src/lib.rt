@@ -1,4 +1,6 @@
 // What an accepted START STOP UNIT asks for, the drive's answer to a command, and why an operation fails. No unit is needed.
+#![tactic(auto)]
+
 ghost use Rattle.std.specs.Prelude.{◌≡◌};
 ghost use Rattle.requests.specs.Requests.{failure_sense, supported_in, request_well_formed};
 
@@ -7,7 +9,7 @@ use drive::Record;
 use senses::Sense;
 
 // What an operation is to do.
-#[derive(Drop)]
+#[derive(Clone, Copy)]
 pub enum Target {
     Stop,
     Start,
@@ -15,14 +17,14 @@ pub enum Target {
 }
 
 // How far it is: it sends no flush, or that many of its flushes have been answered (held at 255).
-#[derive(Drop)]
+#[derive(Clone, Copy)]
 pub enum Stage {
     Straight,
     Flushing(u8),
 }
 
 // An accepted START STOP UNIT.
-#[derive(Drop)]
+#[derive(Clone, Copy)]
 pub struct Request {
     pub target: Target,
     pub immed: bool,
@@ -30,14 +32,14 @@ pub struct Request {
 }
 
 // The drive's answer to a command.
-#[derive(Drop)]
+#[derive(Clone, Copy)]
 pub enum Reply {
     Good,
     Bad,
 }
 
 // Why an operation failed.
-#[derive(Drop)]
+#[derive(Clone, Copy)]
 pub enum Failure {
     CommandSequence,
     NotReady,

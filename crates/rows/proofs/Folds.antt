@@ -1,6 +1,6 @@
 -- One turn and the end of a loop over a row, for `every_at` and `some_at`: the code looks at the place i, and what is left to see is `drop i`.
 use mathlib.Core.Path.{◌≡◌}
-use mathlib.Core.Bool.{Bool, ◌&&◌, ◌||◌, and_assoc, or_assoc, and-true, or_false}
+use mathlib.Core.Bool.{Bool, ◌&&◌, ◌||◌, and_assoc, or_assoc, and-true, or-false}
 use mathlib.Core.List.{List}
 use Prim.Native.Nat.{ℕ, ◌+◌, ◌<◌, ◌≤◌}
 use native.Mathlib.Numerals.{add-one}
@@ -21,4 +21,4 @@ module _ {A : Type 0} where
   some_more f l i z found h = rw (add-one, drop-cons l i z h, or_assoc)
 
   pub some_end : (f : ℕ → A → Bool) (l : List A) (i : ℕ) (found : Bool) → length l ≤ i → (found || some_at f i (drop i l)) ≡ found
-  some_end f l i found h = rw (drop_of_length-le l h, or_false)
+  some_end f l i found h = rw (drop_of_length-le l h, or-false)

@@ -1,4 +1,6 @@
 // Rows: what holds of any list that is read with its places, and the one function that copies bytes.
+#![tactic(auto)]
+
 ghost use Rattle.std.specs.Prelude.{◌+◌, ◌≤◌, ◌≡◌, length};
 ghost use Rattle.std.proofs.Math.Seq.{paste};
 

@@ -1,7 +1,7 @@
 -- The unsaved mark says whether every write is safe: a write sets it, a good flush or a power-on clears it, every other call leaves it and each write
 -- as they were. And the last command of a flushing operation is due only with the mark clear.
 use mathlib.Core.Path.{◌≡◌, refl, sym, ap, ◌∙◌}
-use mathlib.Core.Bool.{Bool, true, false, ◌||◌, cond, and-false, or_false, or_true, true≢false, false≢true}
+use mathlib.Core.Bool.{Bool, true, false, ◌||◌, cond, and-false, or-false, or-true, true≢false, false≢true}
 use mathlib.Core.List.{List, [], ◌∷◌}
 use mathlib.Core.Logic.{◌↔◌}
 use Prim.Native.Nat.{ℕ, zero, suc, ◌<◌}
@@ -183,7 +183,7 @@ module _ (past : List Deed) (u : Unit) (known : Known past u) (marked : Marked p
   asked_says host q waits = (
     marked_later _ past u.unsaved refl refl refl marked,
     λ last.
-        let out = sym (or_false _) ∙ last in
+        let out = sym (or-false _) ∙ last in
         noted_saved (known.1 host q waits) (and_left asks _ out) u.unsaved
         (sym (is_flush_lem (due_from u.unsaved q)) ∙ not-true _ (and_right asks _ out)),
   )
@@ -277,7 +277,7 @@ module _ (u : Unit) (rest : Saved u) (cs : List Call) where
 
   -- Every one is when a flushing operation's last command goes out, and when it is answered good.
   none_left : (last_goes_out (past_of u cs) ≡ true → AllSafe (past_of u cs)) × (last_answered_good (past_of u cs) ≡ true → AllSafe (past_of u cs))
-  none_left = (λ last. last_all_safe (rw last), λ last. last_all_safe (rw last (or_true (last_goes_out (past_of u cs)))))
+  none_left = (λ last. last_all_safe (rw last), λ last. last_all_safe (rw last (or-true (last_goes_out (past_of u cs)))))
 
 -- ---- from manufacture on
 

@@ -1,1 +1,2 @@
 // No code: what holds over any run of calls, proved in proofs/ over the definitions in specs/.
+#![tactic(auto)]

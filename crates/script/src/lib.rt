@@ -1,4 +1,6 @@
 // A line of a script as what it asks for: a call, a line of a block, or a word that stands alone.
+#![tactic(auto)]
+
 ghost use Rattle.std.specs.Prelude.{◌++◌, ◌≡◌};
 ghost use Rattle.script.specs.Lines.{call_entries, part_entries, lone_entries, reader_at, read_by, line_of_words, line_of_text};
 

@@ -1,11 +1,13 @@
 // The bytes of sense data, and the sense of a power condition: from key and codes. No unit is needed.
+#![tactic(auto)]
+
 ghost use Rattle.std.specs.Prelude.{◌≡◌};
 ghost use Rattle.senses.specs.Senses.{sense_bytes, by_cause, ascq_of, power_sense};
 
 use conditions::{Cause, Condition, Power};
 
 // Sense key, additional sense code and its qualifier.
-#[derive(Drop)]
+#[derive(Clone, Copy)]
 pub struct Sense {
     pub key: u8,
     pub asc: u8,

@@ -1,4 +1,6 @@
 // `show`: a record spelled as the lines of a set-up block.
+#![tactic(auto)]
+
 ghost use Rattle.std.specs.Prelude.{◌++◌, ◌≡◌, ◌<◌, get_or};
 ghost use Rattle.digits.specs.Sheets.{sheet, wrote_all};
 ghost use Rattle.digits.specs.Texts.{said, cut};

@@ -1,4 +1,6 @@
 // The script as a stream of bytes, in whatever pieces it comes, and the turns in which the program reads, answers and writes it.
+#![tactic(auto)]
+
 ghost use Rattle.std.specs.Prelude.{◌≡◌, ◌+◌, ◌≤◌, ◌<◌, min, length, take};
 ghost use Rattle.intake.specs.Intake.{clamped};
 ghost use Rattle.stream.specs.Streams.{stream_of, answered, fed_all, finished, bytes_between};
@@ -7,7 +9,7 @@ ghost use Rattle.stream.specs.Turns.{Turned, Starts, standing_of};
 use blocks::Session;
 
 // Where a run of a script stands: its session, how many bytes of an unended line are kept, how far `out` is written and the input read.
-#[derive(Drop)]
+#[derive(Clone, Copy)]
 pub struct Run {
     pub session: Session,
     pub len: usize,
@@ -16,7 +18,7 @@ pub struct Run {
 }
 
 // Where the program stands before a turn: its run, up to where the input buffer holds what was read, and whether it goes on.
-#[derive(Drop)]
+#[derive(Clone, Copy)]
 pub struct Turn {
     pub run: Run,
     pub to: usize,

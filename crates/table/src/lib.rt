@@ -1,5 +1,7 @@
 // The power log for the eye: a row a condition in falling power, then the unit's edition, the marks, the idle count, each host's operation
 // and how often the disk went where.
+#![tactic(auto)]
+
 ghost use Rattle.std.specs.Prelude.{[], ◌++◌, ◌≡◌, ◌<◌, ◌-◌, get_or};
 ghost use Rattle.digits.specs.Sheets.{sheet, wrote_all};
 ghost use Rattle.digits.specs.Texts.{said, cut};

@@ -1,4 +1,6 @@
 // Transition counts: how often the drive went into each condition, by a timer and otherwise, and the log page that shows it (SPC-4, page 1Ah).
+#![tactic(auto)]
+
 ghost use Rattle.std.specs.Prelude.{◌≡◌, ◌+◌, ◌<◌, ◌≤◌};
 ghost use Rattle.std.proofs.Math.Seq.{paste};
 ghost use Rattle.transitions.specs.Counts.{held_full, one_entry, column_by, counted_in, table_of, flat_of, table_after};

@@ -1,42 +1,44 @@
 // The unit's record: its types, how they are read and built, when a record is well formed, a new unit, and the sense of a failure. No call stands here.
+#![tactic(auto)]
+
 ghost use Rattle.std.specs.Prelude.{cond, ◌≡◌, set, replicate};
 ghost use Rattle.unit.specs.Units.{is_out, is_out_for, made_unit, blank, slot_of, is_waiting, held_of, slot_well_formed, hosts_well_formed, out_well_formed, well_formed, largest_of, with_drive, with_marks, with_slot, with_held, with_out, without_hosts, rested, empty_slot, none_held};
 
 use drive::{Drive, Edition, Made, Millis, Record, Setting, Tenths};
 use requests::{Failure, Request};
 
-#[derive(Drop)]
+#[derive(Clone, Copy)]
 pub enum Slot {
     Empty,
     Waiting(Request),
 }
 
-#[derive(Drop)]
+#[derive(Clone, Copy)]
 pub struct HostSlot {
     pub slot: Slot,
 }
 
 // A deferred sense that waits for its host: a failure's and no other.
-#[derive(Drop)]
+#[derive(Clone, Copy)]
 pub enum Held {
     Nothing,
     Holds(Failure),
 }
 
-#[derive(Drop)]
+#[derive(Clone, Copy)]
 pub struct HostHeld {
     pub held: Held,
 }
 
 // The host whose operation has a command at the drive.
-#[derive(Drop)]
+#[derive(Clone, Copy)]
 pub enum Out {
     NoneOut,
     OutFor(u32),
 }
 
 // The edition is "fixed at manufacture" (document 02, request (vi)): no call changes it.
-#[derive(Drop)]
+#[derive(Clone, Copy)]
 pub struct Unit {
     pub drive: Drive,
     pub edition: Edition,

@@ -1,4 +1,6 @@
 // A script's text: lines, words, and the numbers, flags and names that words spell.
+#![tactic(auto)]
+
 ghost use Rattle.std.specs.Prelude.{◌≡◌, ◌+◌, ◌≤◌, min, drop, length, take, ◌++◌};
 ghost use Rattle.words.specs.Lines.{before_feed, before_return};
 ghost use Rattle.words.specs.Numbers.{digit_of, word_number, word_flag};
@@ -7,33 +9,33 @@ ghost use Rattle.words.specs.Words;
 ghost use Rattle.words.specs.Words.{is_blank, blanks, word_length, words, word_at, bytes_at, place_in};
 
 // A word's place in its line and its length; of a word that is not there the length is 0.
-#[derive(Drop)]
+#[derive(Clone, Copy)]
 pub struct Word {
     pub at: usize,
     pub len: usize,
 }
 
 // A number as a word spells it, if it spells one that is in range.
-#[derive(Drop)]
+#[derive(Clone, Copy)]
 pub struct Number {
     pub good: bool,
     pub value: u32,
 }
 
-#[derive(Drop)]
+#[derive(Clone, Copy)]
 pub struct Byte {
     pub good: bool,
     pub value: u8,
 }
 
-#[derive(Drop)]
+#[derive(Clone, Copy)]
 pub struct Flag {
     pub good: bool,
     pub value: bool,
 }
 
 // What a scan of a text looks for: an LF; a byte that is no blank; a byte that belongs to no word.
-#[derive(Drop)]
+#[derive(Clone, Copy)]
 pub enum Seek {
     LineEnd,
     WordStart,
