@@ -200,6 +200,8 @@ class Function:
     def flat(self, where, segs):
         if not segs:
             return "c"
+        segs = [s.replace("well-formed", "well_formed") for s in segs]
+        segs[0] = re.sub("_lem$", "", segs[0])
         step = self.places.get(where, [None, None, ["", ""]])[2]
         first = segs[0]
         if step[0] and norm(first) == norm(step[0]):
@@ -295,6 +297,7 @@ def main():
                 functions[folder] = Function(crate, folder, d, open(o).read())
                 break
     asked = {f: set() for f in functions}
+    kept = {f"{base}/{folder}/Answers.antt" for folder in functions if os.path.exists(f"{base}/{folder}/Answers.antt")}
     for folder, f in functions.items():
         if f.invariants and not os.path.exists(f"{base}/{folder}/Invariants.antt"):
             write(f"{base}/{folder}/Invariants.antt", f.head, f.uses, crate, folder, "Given", f.invariant_text())
@@ -307,7 +310,9 @@ def main():
             folder = fn if fn in functions else "+" + fn
             if folder not in functions:
                 continue
-            opened = re.findall(r"`([^`]+)`", m.group(2).split("did not prove")[-1]) if "did not prove" in m.group(2) else []
+            opened = []
+            for part in re.findall(r"did not prove ((?:`[^`]+`|, | and |\d+ more)+)", m.group(2)):
+                opened += [g for g in re.findall(r"`([^`]+)`", part) if "::" not in g]
             for g in opened:
                 if g not in asked[folder]:
                     asked[folder].add(g)
@@ -315,7 +320,7 @@ def main():
         for folder, goals in asked.items():
             path = f"{base}/{folder}/Answers.antt"
             f = functions[folder]
-            if goals and not (os.path.exists(path) and "-- by hand" in open(path).read()):
+            if goals and path not in kept:
                 parts = []
                 for g in f.goals:
                     if g in goals:
