@@ -1,0 +1,8 @@
+-- The records are made; Active, idle count 0.
+use Rattle.drive.specs.Drives.{made}
+use borrow.Author.Rules.{rules}
+use Rattle.drive.proofs.manufacture.Goals as goal
+
+pub returns : goal.returns
+unfolding made
+returns c = rw c.made_records-records.ensures

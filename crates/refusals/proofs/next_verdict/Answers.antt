@@ -1,0 +1,7 @@
+-- The host's rows, then its own slot's.
+use Rattle.refusals.proofs.Lowest.{lowest_append}
+use borrow.Author.Rules.{rules}
+use Rattle.refusals.proofs.next_verdict.Goals as goal
+
+pub returns : goal.returns
+returns c = rw (c.or_else.ensures, c.given_if.ensures, c.host_verdict.ensures) (lowest_append _ _)

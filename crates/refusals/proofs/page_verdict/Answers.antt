@@ -1,0 +1,7 @@
+-- The length's row, then the record's.
+use Rattle.refusals.proofs.Lowest.{lowest_append}
+use borrow.Author.Rules.{rules}
+use Rattle.refusals.proofs.page_verdict.Goals as goal
+
+pub returns : goal.returns
+returns c = rw (c.or_else.ensures, c.record_verdict.ensures, c.given_if.ensures) (lowest_append _ _)

@@ -1,0 +1,7 @@
+-- The length's row, then the host's.
+use Rattle.refusals.proofs.Lowest.{lowest_append}
+use borrow.Author.Rules.{rules}
+use Rattle.refusals.proofs.sense_verdict.Goals as goal
+
+pub returns : goal.returns
+returns c = rw (c.or_else.ensures, c.host_verdict.ensures, c.given_if.ensures) (lowest_append _ _)

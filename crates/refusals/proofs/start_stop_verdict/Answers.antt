@@ -1,0 +1,17 @@
+-- The length and the host, then the CDB.
+use mathlib.Core.List.{[], ◌∷◌}
+use Rattle.refusals.proofs.Lowest.{lowest_append}
+use Rattle.refusals.specs.Verdicts.{bad_length_row}
+use borrow.Author.Rules.{rules}
+use Rattle.refusals.proofs.start_stop_verdict.Goals as goal
+
+pub returns : goal.returns
+returns c = rw (
+      c.or_else.ensures,
+      c.cdb_verdict.ensures,
+      c.or_else-before.ensures,
+      c.host_verdict.ensures,
+      c.given_if.ensures,
+      lowest_append (bad_length_row c.args.size 6 ∷ []) _,
+    )
+    (lowest_append _ _)
