@@ -2,7 +2,7 @@
 -- And what a numeral and a byte string have at each place.
 use mathlib.Core.Path.{◌≡◌, refl, sym, ap, ◌∙◌}
 use mathlib.Core.Bool.{Bool, true, false, cond}
-use mathlib.Core.List.{List, [], ◌∷◌, ◌++◌, map, append-nil, append_assoc}
+use mathlib.Core.List.{List, [], ◌∷◌, ◌++◌, append-nil, append_assoc}
 use Prim.Native.Char.{code}
 use Prim.Native.Nat.{ℕ, zero, suc, ◌+◌, ◌-◌, ◌*◌, ◌/◌, ◌%◌, ◌<◌, ◌≤◌, min}
 use native.Mathlib.Nat.{not-suc-le-zero}
@@ -10,7 +10,7 @@ use native.Mathlib.Numerals.{add-one, sub-one}
 use native.Mathlib.Omega.{arith}
 use borrow.Author.Tests.{lt-ltb, le-ltb, le-leb, lt-leb}
 use lib.Dec.{ltb}
-use lib.ListN.{length, get_or, take, set, length-append, length-map, length-take}
+use lib.ListN.{length, get_or, take, set, length-append, length-take}
 use lib.Seq.{paste, take_all, take-append-le, take-suc-set}
 use Rattle.digits.specs.declared.Text.{Text}
 use Rattle.digits.specs.Texts.{said, cut, written_at, after}
@@ -18,13 +18,13 @@ use Rattle.digits.specs.Numerals.{glyph, numeral, pairs, digit_at, bytes_text}
 
 -- ---- what a text says
 
--- Its array has its length, in the words in which the checker gives it. The checker gives it of a parameter, as `good`.
+-- Its array has its length, in the words in which the checker gives it of a parameter.
 abbrev pub Whole : Text → Type 0
-Whole t = length (map (λ (b : ℕ). b) t.bytes) ≡ 128
+Whole t = length t.bytes ≡ 128
 
 pub said_length : (t : Text) → Whole t → length (said t) ≡ min t.len 128
 unfolding said
-said_length t e = let l = rw length-map at e in rw (length-take, l)
+said_length t e = rw (length-take, e)
 
 pub said_within : (t : Text) → length (said t) ≤ length t.bytes
 unfolding said
@@ -81,7 +81,6 @@ pub put_one : (t : Text) (b : ℕ) → Whole t → t.len < 128
     → take (t.len + 1) (set t.bytes t.len b) ≡ cut (said t ++ (b ∷ []))
 unfolding cut said
 put_one t b e h =
-    let l = rw length-map at e in
     rw (add-one, take-suc-set t.bytes t.len b (omega arith))
     (sym (take_all 128 (take t.len t.bytes ++ (b ∷ [])) (rw (length-append, length-take) (omega arith))))
 
