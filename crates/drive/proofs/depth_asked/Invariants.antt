@@ -1,11 +1,9 @@
 -- No condition that the search has passed has run out; so the first that has is the lowest. The measure is the depth that it has come to.
 -- (`unsupported` stands where the row has no record.)
-use mathlib.Core.Path.{sym, ◌∙◌}
-use Prim.Native.Nat.{◌-◌, ◌≤◌}
-use native.Mathlib.Omega.{arith}
-use Rattle.rows.proofs.Last.{NoneFrom, none_back}
+use Prim.Native.Nat.{◌≤◌}
+use Rattle.rows.proofs.Last.{NoneFrom}
 use Rattle.drive.specs.Records.{unsupported}
-use Rattle.drive.proofs.Depths.{ran_out_at, none_asked, first_from_below}
+use Rattle.drive.proofs.Depths.{ran_out_at}
 use Rattle.drive.proofs.depth_asked.Given as goal
 
 abbrev pub invariant-loop-depth : goal.invariant-loop-depth

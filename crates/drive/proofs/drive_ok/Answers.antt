@@ -1,6 +1,5 @@
 -- The records' test and the idle count's bound.
 use Rattle.drive.specs.Records.{drive_well_formed}
-use borrow.Author.Rules.{rules}
 use Rattle.drive.proofs.drive_ok.Goals as goal
 
 pub returns : goal.returns

@@ -1,6 +1,6 @@
 -- The counts are twelve, so what is counted in their table is counted in the row; the other fields are as given.
 use mathlib.Core.Path.{◌≡◌, ap}
-use lib.ListN.{length, length-map}
+use lib.ListN.{length}
 use Rattle.transitions.proofs.Counts.{flat_after}
 use Rattle.drive.specs.Drives.{drive_of}
 use borrow.Author.Rules.{rules}

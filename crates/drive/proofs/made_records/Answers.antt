@@ -1,8 +1,7 @@
 -- After i turns the first i records are made.
-use mathlib.Core.Path.{◌≡◌, refl, sym, ◌∙◌}
-use Prim.Native.Nat.{◌≤◌, ◌-◌}
+use mathlib.Core.Path.{sym}
 use native.Mathlib.Omega.{arith}
-use Rattle.rows.proofs.Written.{done, done_more, done_all}
+use Rattle.rows.proofs.Written.{done_more}
 use Rattle.drive.specs.Drives.{made_record}
 use Rattle.drive.proofs.made_records.Goals as goal
 

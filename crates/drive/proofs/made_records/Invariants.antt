@@ -1,8 +1,7 @@
 -- After i turns the first i records are made.
-use mathlib.Core.Path.{◌≡◌, refl, sym, ◌∙◌}
+use mathlib.Core.Path.{◌≡◌}
 use Prim.Native.Nat.{◌≤◌, ◌-◌}
-use native.Mathlib.Omega.{arith}
-use Rattle.rows.proofs.Written.{done, done_more, done_all}
+use Rattle.rows.proofs.Written.{done}
 use Rattle.drive.specs.Drives.{made_record}
 use Rattle.drive.proofs.made_records.Given as goal
 

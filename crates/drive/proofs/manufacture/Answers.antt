@@ -1,6 +1,5 @@
 -- The records are made; Active, idle count 0.
 use Rattle.drive.specs.Drives.{made}
-use borrow.Author.Rules.{rules}
 use Rattle.drive.proofs.manufacture.Goals as goal
 
 pub returns : goal.returns

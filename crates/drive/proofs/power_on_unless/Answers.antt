@@ -1,6 +1,5 @@
 -- The saved settings are restored, then the medium counts as used; both unless the drive is kept.
 use Rattle.drive.proofs.Kept.{powered_on_kept}
-use borrow.Author.Rules.{rules}
 use Rattle.drive.proofs.power_on_unless.Goals as goal
 
 pub returns : goal.returns

@@ -1,7 +1,6 @@
 -- Where nothing need be zero the numbers decide; where everything must be, zero numbers are fine.
 use mathlib.Core.Path.{sym, ◌∙◌}
 use Rattle.drive.proofs.Numbers.{supported_fine, unsupported_fine}
-use borrow.Author.Rules.{rules}
 use Rattle.drive.proofs.record_ok.Goals as goal
 
 pub returns-then-r : goal.returns-then-r

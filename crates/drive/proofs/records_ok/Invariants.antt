@@ -1,12 +1,10 @@
 -- After i turns the flag and what is left to test say what the whole test says.
-use mathlib.Core.Path.{◌≡◌, refl, sym, ◌∙◌}
+use mathlib.Core.Path.{◌≡◌}
 use mathlib.Core.Bool.{◌&&◌}
 use Prim.Native.Nat.{◌≤◌, ◌-◌}
-use native.Mathlib.Omega.{arith}
 use lib.ListN.{drop}
 use Rattle.rows.specs.Rows.{every_at}
-use Rattle.rows.proofs.Folds.{every_more, every_end}
-use Rattle.drive.specs.Records.{record_well_formed, records_well_formed}
+use Rattle.drive.specs.Records.{record_well_formed}
 use Rattle.drive.proofs.records_ok.Given as goal
 
 abbrev pub invariant-loop-i : goal.invariant-loop-i

@@ -1,9 +1,8 @@
 -- After i turns the first i records have their saved setting as the current one, unless they are kept.
-use mathlib.Core.Path.{◌≡◌, refl, ◌∙◌}
+use mathlib.Core.Path.{◌≡◌}
 use Prim.Native.Nat.{◌≤◌, ◌-◌}
-use native.Mathlib.Omega.{arith}
-use Rattle.rows.proofs.Written.{done, done_more, done_all}
-use Rattle.drive.proofs.Kept.{restored_unless, restored_kept}
+use Rattle.rows.proofs.Written.{done}
+use Rattle.drive.proofs.Kept.{restored_unless}
 use Rattle.drive.proofs.restore_unless.Given as goal
 
 abbrev pub invariant-loop-i : goal.invariant-loop-i

@@ -1,6 +1,5 @@
 -- Kept, the idle count stays and with it the drive; else it is 0, and Active is entered.
 use Rattle.drive.specs.Drives.{used}
-use borrow.Author.Rules.{rules}
 use Rattle.drive.proofs.use_unless.Goals as goal
 
 pub returns-else-kept : goal.returns-else-kept

@@ -1,6 +1,5 @@
 -- The cell is written with one more.
 use Rattle.transitions.specs.Counts.{counted_in}
-use borrow.Author.Rules.{rules}
 use Rattle.transitions.proofs.count_in.Goals as goal
 
 pub returns : goal.returns

@@ -1,7 +1,6 @@
 -- The cells stand in their order.
 use mathlib.Core.Path.{refl}
 use Rattle.transitions.specs.Counts.{flat_of}
-use borrow.Author.Rules.{rules}
 use Rattle.transitions.proofs.flat_of.Goals as goal
 
 pub returns : goal.returns

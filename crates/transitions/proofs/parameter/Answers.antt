@@ -4,7 +4,6 @@ use mathlib.Core.Path.{◌≡◌}
 use Prim.Native.Nat.{ℕ, ◌/◌, ◌%◌, ◌<◌}
 use native.Mathlib.Omega.{arith}
 use Rattle.transitions.specs.Page.{parameter_bytes}
-use borrow.Author.Rules.{rules}
 use Rattle.transitions.proofs.parameter.Goals as goal
 
 pub returns : goal.returns
