@@ -1,0 +1,9 @@
+-- Two copies into zeros, the second behind the first.
+use mathlib.Core.Path.{◌∙◌}
+use Rattle.published.proofs.Copies.{standby_copies}
+use Rattle.published.proofs.standby_page.Goals as goal
+
+pub returns : goal.returns
+returns c = c.copy_in-2.ensures
+    ∙ standby_copies c.args.records _ _ _ c.named_bytes-y.ensures c.named_bytes-z.ensures
+    c.copy_in.ensures
