@@ -1,0 +1,7 @@
+-- By what is held; what a text says is cut already.
+use borrow.Author.Rules.{rules}
+use Rattle.digits.proofs.Digits.{cut_said}
+use Rattle.table.proofs.put_held.Goals as goal
+
+pub returns-in-Nothing : goal.returns-in-Nothing
+returns-in-Nothing c = rw c.in-Nothing.is (cut_said c.args.t (search rules))

@@ -1,0 +1,8 @@
+-- The words and the sense, one after another.
+use Rattle.digits.specs.Texts.{said}
+use Rattle.digits.proofs.Digits.{put_after}
+use Rattle.table.proofs.put_sense_held.Goals as goal
+
+pub returns : goal.returns
+returns c = let start = c.args.t in
+    put_after (said start) _ _ (put_after (said start) _ _ c.put_all-head.ensures c.put_sense.ensures) c.put_all.ensures
