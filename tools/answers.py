@@ -201,7 +201,7 @@ class Function:
         if not segs:
             return "c"
         segs = [s.replace("well-formed", "well_formed") for s in segs]
-        segs[0] = re.sub("_lem$", "", segs[0])
+        segs[0] = re.sub("_lem$", "", segs[0]).replace("Named-by", "named_by")
         step = self.places.get(where, [None, None, ["", ""]])[2]
         first = segs[0]
         if step[0] and norm(first) == norm(step[0]):
@@ -300,7 +300,8 @@ def main():
     kept = {f"{base}/{folder}/Answers.antt" for folder in functions if os.path.exists(f"{base}/{folder}/Answers.antt")}
     for folder, f in functions.items():
         if f.invariants and not os.path.exists(f"{base}/{folder}/Invariants.antt"):
-            write(f"{base}/{folder}/Invariants.antt", f.head, f.uses, crate, folder, "Given", f.invariant_text())
+            text = f.invariant_text()
+            write(f"{base}/{folder}/Invariants.antt", f.head, f.uses, crate, folder, "Given", f.wanted("\n".join(text)) + text)
     for turn in range(rounds):
         said = subprocess.run(["rt", "check"], cwd=f"crates/{crate}", stdout=subprocess.PIPE, stderr=subprocess.STDOUT, text=True).stdout
         open(f"/tmp/conv/{crate}.txt", "w").write(said)
