@@ -145,6 +145,9 @@ class Function:
         args, term = m.group(1).split(), m.group(2)
         term = self.paths(term, place)
         args = [a for a in args if a != "κs"]
+        arm = re.search(r"-(in-[A-Z]\w*)", new)
+        if arm:
+            term = re.sub(r"c\.[\w\-']+\.given\.1", "c." + arm.group(1) + ".is", term)
         self.goals[new] = (unfolding, args, term, comment)
 
     def paths(self, term, place):
