@@ -13,7 +13,6 @@ use Rattle.cdb.specs.declared.Wanted.{Wanted}
 use Rattle.cdb.specs.declared.Wanted.TheVariants.{Wants, Unlisted}
 use Rattle.bridge.specs.Bridge.{start_stop_rows, start_stop_settled, start_stop_outcome}
 use Rattle.bridge.specs.Inner.{slot_for, acceptance_of}
-use borrow.Author.Rules.{rules}
 use Rattle.bridge.proofs.start_stop_unit.Goals as goal
 
 accepted_once : (u : Unit) (host : ℕ) (cdb : List ℕ) (w : Wanted) (v : Verdict)

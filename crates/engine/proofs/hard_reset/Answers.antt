@@ -1,7 +1,6 @@
 -- Kept where a number is given: the one record is the one that the verdict asks for.
 use mathlib.Core.Path.{◌∙◌}
 use Rattle.engine.specs.Engine.{hard_reset_effect, reset_outcome}
-use borrow.Author.Rules.{rules}
 use Rattle.engine.proofs.hard_reset.Goals as goal
 
 pub returns : goal.returns

@@ -2,7 +2,6 @@
 use mathlib.Core.Path.{◌∙◌}
 use Rattle.unit.specs.Units.{made_unit, blank}
 use Rattle.engine.specs.Engine.{manufacture_outcome}
-use borrow.Author.Rules.{rules}
 use Rattle.engine.proofs.manufacture.Goals as goal
 
 pub returns : goal.returns

@@ -1,7 +1,6 @@
 -- Kept where a number is given: the one record is the one that the verdict asks for.
 use mathlib.Core.Path.{◌∙◌}
 use Rattle.engine.specs.Engine.{read_effect, read_outcome}
-use borrow.Author.Rules.{rules}
 use Rattle.engine.proofs.read.Goals as goal
 
 pub returns : goal.returns

@@ -3,7 +3,6 @@ use mathlib.Core.Path.{◌∙◌}
 use Rattle.refusals.specs.Refusals.{is_given}
 use Rattle.engine.specs.Engine.{tick_effect, tick_outcome}
 use Rattle.engine.proofs.Kept.{tick_kept}
-use borrow.Author.Rules.{rules}
 use Rattle.engine.proofs.tick.Goals as goal
 
 pub returns : goal.returns

@@ -1,6 +1,5 @@
 -- By the command that is out.
 use Rattle.exchange.specs.Answered.{answered_for}
-use borrow.Author.Rules.{rules}
 use Rattle.exchange.proofs.answered_for.Goals as goal
 
 pub returns-then-is_flush : goal.returns-then-is_flush

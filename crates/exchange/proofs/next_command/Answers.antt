@@ -11,7 +11,6 @@ use Rattle.refusals.specs.declared.Verdict.{Verdict}
 use Rattle.refusals.specs.declared.Verdict.TheVariants.{Clear, Given}
 use Rattle.exchange.specs.Exchange.{next_effect, next_rows, next_on, next_settled, next_outcome}
 use Rattle.exchange.specs.Inner.{due_in, next_of}
-use borrow.Author.Rules.{rules}
 use Rattle.exchange.proofs.next_command.Goals as goal
 
 on_once : (u : Unit) (host : ℕ) (s : Slot)
@@ -30,12 +29,12 @@ next_once u host (Given r) = refl
 pub returns : goal.returns
 unfolding next_outcome
 returns c = rw (
-      c.next_unless.ensures,
-      c.is_given.ensures,
-      c.next_of.ensures,
-      c.next_verdict-v.ensures,
-      c.is_out.ensures,
-      c.is_waiting-waiting.ensures,
-      c.slot_of-s.ensures,
-      c.unit_ok-ok.ensures,
-    ) (next_once c.args.u c.args.host (lowest (next_rows c.args.u c.args.host)))
+  c.next_unless.ensures,
+  c.is_given.ensures,
+  c.next_of.ensures,
+  c.next_verdict-v.ensures,
+  c.is_out.ensures,
+  c.is_waiting-waiting.ensures,
+  c.slot_of-s.ensures,
+  c.unit_ok-ok.ensures,
+) (next_once c.args.u c.args.host (lowest (next_rows c.args.u c.args.host)))
