@@ -1,6 +1,6 @@
 -- The past knows the record: of each waiting operation the CDB, the flushes answered and the answers, and of what is out whether it is a flush.
 -- Each call keeps that, case by case; a case that changes a slot is split by whether it is this host's.
-use mathlib.Core.Path.{◌≡◌, refl, sym, ap, ◌∙◌}
+use mathlib.Core.Path.{◌≡◌, refl, sym, ap, subst, ◌∙◌}
 use mathlib.Core.Bool.{Bool, true, false, ◌||◌, cond, true≢false}
 use mathlib.Core.List.{List, [], ◌∷◌, reverse_aux}
 use Prim.Native.Nat.{ℕ, zero, suc, ◌+◌, ◌<◌}
@@ -232,8 +232,9 @@ module _ (past : List Deed) (u : Unit) (known : Known past u) where
       noted : (k : ℕ) (p : Request) (b : Bool) → eqb host k ≡ b → cond b (Waiting (flush_counted q)) (slot_of u.slots k) ≡ Waiting p
           → NotedBy (goes_on host Good ∷ past) k p
       noted k p true e w =
-          rw (e, sent_due host q taken ∙ f, ← waiting_same _ p w, ← eqb-true host k e)
-          (flushed_noted _ _ _ u.unsaved q (ops host q taken.waiting) f)
+          rw (e, sent_due host q taken ∙ f, ← waiting_same _ p w)
+          (subst (λ j. Noted (cdb_of j past) (suc (flushes_answered j past)) (Good ∷ []) (flush_counted q)) (eqb-true host k e)
+          (flushed_noted _ _ _ u.unsaved q (ops host q taken.waiting) f))
       noted k p false e w = rw e (ops k p w)
 
   ended_stays : (host : ℕ) (reply : Reply) (report : Report) (q : Request) (unsaved : Bool) → Taken u host q

@@ -1,6 +1,6 @@
 -- Demand 3 at the calls of an operation. Until its last answer nothing stands in the serial run, and only the unsaved mark may come apart. At its last
 -- answer it is run whole there: both runs then have the same answer to the same command, which sets condition, idle count, marks and held sense alike.
-use mathlib.Core.Path.{◌≡◌, refl, sym, ap, ◌∙◌}
+use mathlib.Core.Path.{◌≡◌, refl, sym, ap, subst, ◌∙◌}
 use mathlib.Core.Bool.{Bool, true, false, true≢false}
 use mathlib.Core.List.{List, [], ◌∷◌, append-nil}
 use mathlib.Core.Logic.{inl, inr}
@@ -20,7 +20,8 @@ use Rattle.unit.specs.declared.HostSlot.{HostSlot}
 use Rattle.requests.specs.declared.Failure.{Failure}
 use Rattle.refusals.specs.declared.Verdict.TheVariants.{Clear}
 use Rattle.unit.specs.declared.Unit.{Unit}
-use Rattle.cdb.specs.Cdb.{no_flush, is_listed, stage_for, request_for}
+use Rattle.cdb.specs.Cdb.{no_flush, is_listed, stage_for, request_for, fits as target_fits}
+use Rattle.cdb.specs.declared.Wanted.TheVariants.{Wants}
 use Rattle.operations.specs.Operations.{failure_of, registers_of, last_of, due_from, is_flush, one_more, flushes_of, report_good, report_failed, flush_counted}
 use Rattle.exchange.specs.Answered.{held_if, flushed_well, failed, succeeded, last_answered, answered_for}
 use Rattle.bridge.specs.Bridge.{start_stop_rows}
@@ -207,7 +208,8 @@ module _ (past : List Deed) (u v : Unit) (known : Known past u) (same : Same u v
     listed : is_listed v.drive.records cdb ≡ true
     listed =
         let fits = request_fits u.drive.records q.target q.stage (rw taken.waiting at (((unit_fine u).0 known.0).requests host)) in
-        listed_when v.drive.records cdb q.target noted.unreserved noted.wants (rw same.records fits)
+        listed_when v.drive.records cdb q.target noted.unreserved noted.wants
+        (subst (λ rs. target_fits rs (Wants q.target) ≡ true) (sym same.records) fits)
 
     accepts : lowest (start_stop_rows v host cdb) ≡ Clear
     accepts =
