@@ -1,0 +1,15 @@
+-- The first bytes are lent, and come back as the call left them.
+use Prim.Native.Nat.{◌≤◌}
+use lib.ListN.{length}
+use Rattle.answers.proofs.Buffers.{has_room_lem, lent_front, ComesBack, comes_back}
+use Rattle.answers.proofs.sense.Goals as goal
+
+pub returns : goal.returns
+returns c =
+    let whole = c.unwritten-buffer in
+    let n = c.buffer_len-n in
+    let s = c.request_sense-c in
+    let within : n.result ≤ length whole.result = has_room_lem _ _ whole.ensures n.ensures.1 in
+    let back : ComesBack whole.result s.new.buffer n.result = comes_back _ _ _ within s.auto.buffer in
+    let front = lent_front whole.result n.result c.args.len whole.ensures n.ensures.0 n.ensures.1 in
+    rw (← front) (rw s.ensures.0, rw (c.put_filled.ensures, back.front, s.ensures.0, s.ensures.1))
