@@ -7,11 +7,11 @@ use Rattle.refusals.proofs.first_of.Goals as goal
 
 pub returns : goal.returns
 returns c = rw (
-      c.or_else-2.ensures,
-      c.or_else.ensures,
-      c.given_if-3.ensures,
-      c.given_if-2.ensures,
-      c.given_if.ensures,
-      lowest_append ((c.args.b gives c.args.y) ∷ []) _,
-    )
+  c.or_else-2.ensures,
+  c.or_else.ensures,
+  c.given_if-3.ensures,
+  c.given_if-2.ensures,
+  c.given_if.ensures,
+  lowest_append ((c.args.b gives c.args.y) ∷ []) _,
+)
     (lowest_append _ _)

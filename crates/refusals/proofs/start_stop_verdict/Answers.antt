@@ -7,11 +7,11 @@ use Rattle.refusals.proofs.start_stop_verdict.Goals as goal
 
 pub returns : goal.returns
 returns c = rw (
-      c.or_else.ensures,
-      c.cdb_verdict.ensures,
-      c.or_else-before.ensures,
-      c.host_verdict.ensures,
-      c.given_if.ensures,
-      lowest_append (bad_length_row c.args.size 6 ∷ []) _,
-    )
+  c.or_else.ensures,
+  c.cdb_verdict.ensures,
+  c.or_else-before.ensures,
+  c.host_verdict.ensures,
+  c.given_if.ensures,
+  lowest_append (bad_length_row c.args.size 6 ∷ []) _,
+)
     (lowest_append _ _)
