@@ -1,62 +1,93 @@
 // Reads a log page of another maker, for the test bench, and writes the report of it. What stands in the report, `report` decides.
 #![tactic(auto)]
 
-use intake::Source;
-use libc::{STDERR_FILENO, STDIN_FILENO, STDOUT_FILENO};
+ghost use Rattle.std.specs.Prelude.{◌≤◌, length};
 
-// Writes the report of what can be read; false if that does not end well. The buffer is larger than a page, so that a longer file is told apart.
-// `read_full` stops at the end of the input and at a read that fails: one more read tells which it was.
-fn check(fd: i32) -> bool {
-    let mut page = io::buffer();
-    let n = io::read_full(fd, &mut page);
-    let mut rest = [0u8; 1];
-    if libc::read(fd, &mut rest) < 0 {
-        return false;
+use intake::Source;
+use std::env::FillError;
+use std::io::{Print, Read};
+use std::rt::{Env, Files};
+use std::{fs, io};
+
+// Reads until the buffer is full, the input ends or a read fails, and answers how many bytes came.
+fn read_full(reader: &mut impl Read, page: &mut [u8; 4096]) -> usize
+    ensures { result ≤ length page.new }
+{
+    let mut done = 0;
+    while done < page.len() {
+        let n = reader.read(&mut page[done..]).unwrap_or(0);
+        if n == 0 {
+            break;
+        }
+        done += n;
     }
+    done
+}
+
+// Writes the report of what can be read, or answers why it cannot. The buffer is larger than a page, so that a longer file is told apart.
+// `read_full` stops at the end of the input and at a read that fails: one more read tells which it was.
+fn check(reader: &mut impl Read, writer: &impl Print) -> io::Result<()> {
+    let mut page = [0u8; 4096];
+    let n = read_full(reader, &mut page);
+    let mut rest = [0u8; 1];
+    reader.read(&mut rest)?;
     let mut out = [0u8; 9216];
     let len = report::put_report(&page[..n], &mut out);
-    io::write_all(STDOUT_FILENO, &out[..len]);
-    true
+    let _ = writer.write_all(&out[..len]);
+    Ok(())
 }
 
 // Says on standard error what could not be done, and with what.
-fn complain(what: &[u8], with: &[u8]) {
-    io::write_all(STDERR_FILENO, b"logcheck: cannot ");
-    io::write_all(STDERR_FILENO, what);
-    io::write_all(STDERR_FILENO, with);
-    io::write_all(STDERR_FILENO, b"\n");
+fn complain(errors: &impl Print, what: &[u8], with: &[u8]) {
+    let _ = errors.write_all(b"logcheck: cannot ");
+    let _ = errors.write_all(what);
+    let _ = errors.write_all(with);
+    let _ = errors.write_all(b"\n");
 }
 
-fn check_standard() {
-    if !check(STDIN_FILENO) {
-        complain(b"read ", b"standard input");
+// How many arguments there are, the program's own name among them.
+fn argument_count(rt: &impl Env) -> usize {
+    let mut first = [0u8; 1];
+    for i in 0..usize::MAX {
+        if let Err(FillError::NotPresent) = rt.arg(i, &mut first) {
+            return i;
+        }
+    }
+    usize::MAX
+}
+
+// A name that is not UTF-8 cannot be opened: a path of std is text.
+fn open<R: Files>(rt: &R, name: &[u8]) -> Option<R::File> {
+    let path = str::from_utf8(name).ok()?;
+    fs::open(rt, path).ok()
+}
+
+fn check_file(rt: &(impl Env + Files + Print), errors: &impl Print, argument: usize) {
+    let mut name = [0u8; 65536];
+    let n = rt.arg(argument, &mut name).unwrap_or(0);
+    match open(rt, &name[..n]) {
+        Some(mut file) => {
+            if check(&mut file, rt).is_err() {
+                complain(errors, b"read ", &name[..n]);
+            }
+        }
+        None => complain(errors, b"open ", &name[..n]),
     }
 }
 
-fn check_file(argument: usize) {
-    let mut path = io::large_buffer();
-    let n = os::arg(argument, &mut path);
-    let fd = os::open_read(&path[..n]);
-    if fd < 0 {
-        complain(b"open ", &path[..n]);
-        return;
-    }
-    if !check(fd) {
-        complain(b"read ", &path[..n]);
-    }
-    libc::close(fd);
-}
-
-fn main() {
-    let source = intake::source_by(os::arg_count());
-    match source {
-        Source::Standard => check_standard(),
-        Source::File(argument) => check_file(argument),
+fn main(rt: HostRuntime) {
+    let errors = rt.stderr();
+    match intake::source_by(argument_count(&rt)) {
+        Source::Standard => {
+            if check(&mut rt.stdin(), &rt).is_err() {
+                complain(&errors, b"read ", b"standard input");
+            }
+        }
+        Source::File(argument) => check_file(&rt, &errors, argument),
         Source::Misused => {
-            io::write_all(
-                STDERR_FILENO,
-                b"usage: logcheck [FILE]: reads a log page of 512 bytes from FILE, or from standard input\n",
-            );
+            let usage =
+                b"usage: logcheck [FILE]: reads a log page of 512 bytes from FILE, or from standard input\n";
+            let _ = errors.write_all(usage);
         }
     }
 }

@@ -4,63 +4,87 @@
 ghost use Rattle.std.specs.Prelude.{◌≤◌, length};
 
 use intake::Source;
-use libc::{STDERR_FILENO, STDIN_FILENO, STDOUT_FILENO};
+use std::env::FillError;
+use std::fs;
+use std::io::{Print, Read};
+use std::rt::{Env, Files};
 
 // Writes out the first n bytes; false if that cannot be done.
-fn print(out: &[u8; 16384], n: usize) -> bool
+fn print(writer: &impl Print, out: &[u8; 16384], n: usize) -> bool
     requires { n ≤ length out.now }
 {
     let all: &[u8] = out;
-    io::write_all(STDOUT_FILENO, &all[..n])
+    writer.write_all(&all[..n]).is_ok()
 }
 
-// Reads once, if that is asked.
-fn read_if(asked: bool, fd: i32, input: &mut [u8; 65536]) -> isize {
-    if asked { libc::read(fd, input) } else { 0 }
+// Reads once, if that is asked. It answers as C's `read` does: how many bytes came, or -1.
+fn read_if(asked: bool, reader: &mut impl Read, input: &mut [u8; 65536]) -> isize {
+    if !asked {
+        return 0;
+    }
+    match reader.read(input) {
+        Ok(n) => n as isize,
+        Err(_) => -1,
+    }
 }
 
-// The answers are written before it waits for input. A proved loop has to end, and nothing says that the input does: so the turns are counted
-// down, from a number that no run uses up.
-fn replay(fd: i32) {
-    let mut input = io::large_buffer();
+// The answers are written before it waits for input. A proved loop has to end, and nothing says that the input does: so the turns are counted,
+// up to a number that no run reaches.
+fn replay(reader: &mut impl Read, writer: &impl Print) {
+    let mut input = [0u8; 65536];
     let mut line = [0u8; 4001];
     let mut out = [0u8; 16384];
     let mut turn = stream::start();
-    let mut turns = u64::MAX;
-    while (turns > 0) & turn.goes {
-        let written = print(&out, turn.run.at);
+    for _ in 0..u64::MAX {
+        if !turn.goes {
+            break;
+        }
+        let written = print(writer, &out, turn.run.at);
         let asked = written & intake::is_answered(turn.run.from, turn.to);
-        let got = read_if(asked, fd, &mut input);
+        let got = read_if(asked, reader, &mut input);
         turn = stream::go_on(turn, written, got, &input, &mut line, &mut out);
-        turns -= 1;
     }
-    print(&out, turn.run.at);
+    print(writer, &out, turn.run.at);
 }
 
-fn replay_file(argument: usize) {
-    let mut path = io::large_buffer();
-    let n = os::arg(argument, &mut path);
-    let fd = os::open_read(&path[..n]);
-    if fd < 0 {
-        io::write_all(STDERR_FILENO, b"replay: cannot open ");
-        io::write_all(STDERR_FILENO, &path[..n]);
-        io::write_all(STDERR_FILENO, b"\n");
-        return;
+// How many arguments there are, the program's own name among them.
+fn argument_count(rt: &impl Env) -> usize {
+    let mut first = [0u8; 1];
+    for i in 0..usize::MAX {
+        if let Err(FillError::NotPresent) = rt.arg(i, &mut first) {
+            return i;
+        }
     }
-    replay(fd);
-    libc::close(fd);
+    usize::MAX
 }
 
-fn main() {
-    let source = intake::source_by(os::arg_count());
-    match source {
-        Source::Standard => replay(STDIN_FILENO),
-        Source::File(argument) => replay_file(argument),
+// A name that is not UTF-8 cannot be opened: a path of std is text.
+fn open<R: Files>(rt: &R, name: &[u8]) -> Option<R::File> {
+    let path = str::from_utf8(name).ok()?;
+    fs::open(rt, path).ok()
+}
+
+fn replay_file(rt: &(impl Env + Files + Print), errors: &impl Print, argument: usize) {
+    let mut name = [0u8; 65536];
+    let n = rt.arg(argument, &mut name).unwrap_or(0);
+    match open(rt, &name[..n]) {
+        Some(mut file) => replay(&mut file, rt),
+        None => {
+            let _ = errors.write_all(b"replay: cannot open ");
+            let _ = errors.write_all(&name[..n]);
+            let _ = errors.write_all(b"\n");
+        }
+    }
+}
+
+fn main(rt: HostRuntime) {
+    let errors = rt.stderr();
+    match intake::source_by(argument_count(&rt)) {
+        Source::Standard => replay(&mut rt.stdin(), &rt),
+        Source::File(argument) => replay_file(&rt, &errors, argument),
         Source::Misused => {
-            io::write_all(
-                STDERR_FILENO,
-                b"usage: replay [FILE]: reads a script from FILE, or from standard input\n",
-            );
+            let usage = b"usage: replay [FILE]: reads a script from FILE, or from standard input\n";
+            let _ = errors.write_all(usage);
         }
     }
 }
