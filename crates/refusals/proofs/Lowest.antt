@@ -10,7 +10,7 @@ use Rattle.rows.specs.Rows.{every_at}
 use Rattle.rows.proofs.Choices.{either}
 use Rattle.rows.proofs.Places.{and_left, and_right}
 use Rattle.rows.proofs.Some.{or_left, or_right}
-use Rattle.refusals.specs.Refusals.{Row, ◌gives◌, is_same, applies_in, lowest, or_else, number_of}
+use Rattle.refusals.specs.Refusals.{Row, is_same, applies_in, lowest, or_else, number_of}
 use Rattle.refusals.specs.Verdicts.{bad_length_row}
 use Rattle.refusals.specs.declared.Refusal.{Refusal}
 use Rattle.refusals.specs.declared.Refusal.TheVariants.{BadLength}

@@ -2,7 +2,6 @@
 use mathlib.Core.List.{[], ◌∷◌}
 use Rattle.refusals.specs.Refusals.{◌gives◌}
 use Rattle.refusals.proofs.Lowest.{lowest_append}
-use borrow.Author.Rules.{rules}
 use Rattle.refusals.proofs.first_of.Goals as goal
 
 pub returns : goal.returns

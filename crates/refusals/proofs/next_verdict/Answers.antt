@@ -1,6 +1,5 @@
 -- The host's rows, then its own slot's.
 use Rattle.refusals.proofs.Lowest.{lowest_append}
-use borrow.Author.Rules.{rules}
 use Rattle.refusals.proofs.next_verdict.Goals as goal
 
 pub returns : goal.returns

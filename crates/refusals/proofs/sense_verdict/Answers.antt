@@ -1,6 +1,5 @@
 -- The length's row, then the host's.
 use Rattle.refusals.proofs.Lowest.{lowest_append}
-use borrow.Author.Rules.{rules}
 use Rattle.refusals.proofs.sense_verdict.Goals as goal
 
 pub returns : goal.returns

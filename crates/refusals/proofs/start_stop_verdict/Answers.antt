@@ -2,7 +2,6 @@
 use mathlib.Core.List.{[], ◌∷◌}
 use Rattle.refusals.proofs.Lowest.{lowest_append}
 use Rattle.refusals.specs.Verdicts.{bad_length_row}
-use borrow.Author.Rules.{rules}
 use Rattle.refusals.proofs.start_stop_verdict.Goals as goal
 
 pub returns : goal.returns
