@@ -17,7 +17,7 @@ use Rattle.exchange.specs.Answered.{answered_for}
 use Rattle.bridge.specs.Bridge.{start_stop_outcome}
 use Rattle.exchange.specs.Exchange.{next_outcome, answer_outcome}
 use Rattle.calls.specs.Calls.{outcome}
-use Rattle.calls.specs.Facts.{number_1, number_2, number_3, recovery_3, timer_3, largest_numbers, slot_3, number_4, out_read, out_start, out_next, out_sense, out_epc, number_5, none_out, number_6, number_7, number_8, byte_2, modifier_1, number_9, written_9, number_10, by_current, not_by_saved, unsupported_z, verify_sent, verify_bad, verify_stays, verify_held, verify_told, start_starts, start_stays, start_1h, goes_starts, goes_stays, epc_keeps, epc_stays, restores_saved, timer_16, timer_not_on, flag_by_saved, flag_off, idle_counts, idle_stays, fails_told, fails_held, stop_fails, goes_fails, flushes_255, flushes_stay, page_1A, page_51, page_53, page_3, page_out, counts_timer, counts_deepest, counts_use, counts_low, counts_held_lem, counts_cause, counts_flush, counts_bad, counts_fill, counts_full, resets_keep, power_on_counts, power_on_held, every_fixed, every_saved, every_unsaved, every_none, fixed_alone, Fixed-Goes, number_11, draft_11, one_before_11, three_before_11, eleven_not_4, idle_page, standby_page, old_page, minutes_set, minutes_saved, minutes_zero, draft_minutes, state_minutes, long_timer_3, long_idle_3, long_numbers, idle_goes_on, idle_fills, poll_keeps, told_keeps, polled_sleeps, Facts}
+use Rattle.calls.specs.Facts.{number_1, number_2, number_3, recovery_3, timer_3, largest_numbers, slot_3, number_4, out_read, out_start, out_next, out_sense, out_epc, number_5, none_out, number_6, number_7, number_8, byte_2, modifier_1, number_9, written_9, number_10, by_current, not_by_saved, unsupported_z, verify_sent, verify_bad, verify_stays, verify_held, verify_told, start_starts, start_stays, start_1h, goes_starts, goes_stays, epc_keeps, epc_stays, restores_saved, timer_16, timer_not_on, flag_by_saved, flag_off, idle_counts, idle_stays, fails_told, fails_held, stop_fails, goes_fails, flushes_255, flushes_stay, page_1a, page_51, page_53, page_3, page_out, counts_timer, counts_deepest, counts_use, counts_low, counts_held, counts_cause, counts_flush, counts_bad, counts_fill, counts_full, resets_keep, power_on_counts, power_on_held, every_fixed, every_saved, every_unsaved, every_none, fixed_alone, fixed_goes, number_11, draft_11, one_before_11, three_before_11, eleven_not_4, idle_page, standby_page, old_page, minutes_set, minutes_saved, minutes_zero, draft_minutes, state_minutes, long_timer_3, long_idle_3, long_numbers, idle_goes_on, idle_fills, poll_keeps, told_keeps, polled_sleeps, Facts}
 
 pub facts : Facts outcome
 unfolding counts_after table_of counted_in flat_of parameter_bytes transition_bytes record_well_formed records_well_formed drive_well_formed timers_ask ticked used powered_on made aborts performed hosts_well_formed well_formed lowest epc_outcome tick_outcome read_outcome write_outcome power_on_outcome reset_outcome sense_outcome log_outcome transitions_outcome new_page_outcome logged_words log_words log_bytes descriptor descriptor_page sense_bytes wanted is_listed answered_for start_stop_outcome next_outcome answer_outcome
@@ -72,7 +72,7 @@ facts stop_fails = refl
 facts goes_fails = refl
 facts flushes_255 = refl
 facts flushes_stay = refl
-facts page_1A = refl
+facts page_1a = refl
 facts page_51 = refl
 facts page_53 = refl
 facts page_3 = refl
@@ -81,7 +81,7 @@ facts counts_timer = refl
 facts counts_deepest = refl
 facts counts_use = refl
 facts counts_low = (refl, refl, refl)
-facts counts_held_lem = refl
+facts counts_held = refl
 facts counts_cause = (refl, refl, refl)
 facts counts_flush = refl
 facts counts_bad = refl
@@ -95,7 +95,7 @@ facts every_saved = refl
 facts every_unsaved = refl
 facts every_none = refl
 facts fixed_alone = refl
-facts Fixed-Goes = refl
+facts fixed_goes = refl
 facts number_11 = refl
 facts draft_11 = refl
 facts one_before_11 = refl

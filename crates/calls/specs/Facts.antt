@@ -189,9 +189,9 @@ pub data Fact : Type 0 where
   verify_sent verify_bad verify_stays verify_held verify_told start_starts start_stays start_1h goes_starts goes_stays epc_keeps epc_stays : Fact
   restores_saved timer_16 timer_not_on flag_by_saved flag_off idle_counts idle_stays : Fact
   fails_told fails_held stop_fails goes_fails flushes_255 flushes_stay : Fact
-  page_1A page_51 page_53 page_3 page_out counts_timer counts_deepest counts_use counts_low counts_held_lem counts_cause counts_flush counts_bad counts_fill counts_full : Fact
+  page_1a page_51 page_53 page_3 page_out counts_timer counts_deepest counts_use counts_low counts_held counts_cause counts_flush counts_bad counts_fill counts_full : Fact
   resets_keep power_on_counts power_on_held : Fact
-  every_fixed every_saved every_unsaved every_none fixed_alone Fixed-Goes : Fact
+  every_fixed every_saved every_unsaved every_none fixed_alone fixed_goes : Fact
   number_11 draft_11 one_before_11 three_before_11 eleven_not_4 idle_page standby_page old_page : Fact
   minutes_set minutes_saved minutes_zero draft_minutes state_minutes long_timer_3 long_idle_3 long_numbers idle_goes_on idle_fills : Fact
   poll_keeps told_keeps polled_sleeps : Fact
@@ -330,7 +330,7 @@ fact_of flushes_stay = record {
 }
 -- ---- document 02, request (i). "Parameters, in order: 0001h Active, .. 0008h Standby_z, 0009h Standby_y, each with control byte 03h and length 4, high
 -- byte first; the page header is 1A 00 00 30", "each row's sum, cut at the top".
-fact_of page_1A = record {
+fact_of page_1a = record {
   start = tallied (0x01020304 ∷ 0x10203040 ∷ 2 ∷ 3 ∷ 4 ∷ 5 ∷ 6 ∷ 7 ∷ 8 ∷ 9 ∷ 0xFFFFFFFF ∷ 1 ∷ []);
   calls = transitions_page (replicate 52 0xA5) ∷ [];
   shows =
@@ -362,7 +362,7 @@ fact_of counts_low = record {
   shows = enters_with (Low IdleA Command) (0 ∷ 0 ∷ 0 ∷ 1 ∷ 0 ∷ 1 ∷ 0 ∷ 0 ∷ 0 ∷ 0 ∷ 0 ∷ 1 ∷ []);
 }
 -- "going to the condition already held counts nothing": by a command twice, and by a command where a timer was.
-fact_of counts_held_lem = record {
+fact_of counts_held = record {
   start = fresh;
   calls = epc_call 0x82 0x1 ∷ epc_call 0x82 0x1 ∷ [];
   shows = has_counts (0 ∷ 0 ∷ 0 ∷ 0 ∷ 0 ∷ 1 ∷ 0 ∷ 0 ∷ 0 ∷ 0 ∷ 0 ∷ 0 ∷ []);
@@ -441,7 +441,7 @@ fact_of fixed_alone = record {
   calls = epc_call 0x81 0x3 ∷ [];
   shows = λ o. o ≡ aborted (with_idle_a (allowing true false (on 10)));
 }
-fact_of Fixed-Goes = record {
+fact_of fixed_goes = record {
   start = idled 7 (with_idle_a (allowing true false (on 10)));
   calls = epc_call 0x81 0x1 ∷ [];
   shows = λ o. o ≡ done (with_power (Low IdleA Command) (with_idle_a (allowing true false (on 10))));

@@ -67,7 +67,7 @@ record Beside (past : List Deed) (u v : Unit) (cs : List Call) : Type 0 where
   same : Same (run u cs) end
   none_refused : gather refused_in made ≡ []
   same_others : gather other_in made ≡ gather other_in (deeds (history u cs))
-  in_order_lem : gather beginner_in made ≡ gather ender_in (deeds (history u cs))
+  in_order : gather beginner_in made ≡ gather ender_in (deeds (history u cs))
   in_place : gather serial_place made ≡ gather real_place (deeds (history u cs))
   over : gather ender_in made ≡ gather ender_in (deeds (history u cs))
   balance : (k : ℕ) → pending k past u.slots ++ gather (begun_in k) (deeds (history u cs))
@@ -89,7 +89,7 @@ beside_next past u v c cs reset known f b =
       same = b.same;
       none_refused = gather_append refused_in ds es ∙ rw (f.stand.none_refused, b.none_refused);
       same_others = gather_append other_in ds es ∙ rw (f.stand.same_others, b.same_others);
-      in_order_lem = gather_append beginner_in ds es ∙ rw (f.stand.beginner, b.in_order_lem);
+      in_order = gather_append beginner_in ds es ∙ rw (f.stand.beginner, b.in_order);
       in_place = gather_append serial_place ds es ∙ rw (f.stand.place, b.in_place);
       over = gather_append ender_in ds es ∙ rw (f.stand.over, b.over);
       balance = λ k.
@@ -106,7 +106,7 @@ beside past u v known same [] h = record {
   same = same;
   none_refused = refl;
   same_others = refl;
-  in_order_lem = refl;
+  in_order = refl;
   in_place = refl;
   over = refl;
   balance = λ k. append-nil (pending k past u.slots);
@@ -160,7 +160,7 @@ module _ (u : Unit) (cs : List Call) (fine : well_formed u ≡ true) (rest : not
     none_refused = both.none_refused;
     same_others = both.same_others;
     one_each = begun_same;
-    in_order_lem = both.in_order_lem;
+    in_order = both.in_order;
     in_place = both.in_place;
     over = both.over;
   })

@@ -132,7 +132,7 @@ pub record Serialises (real serially : List Deed) : Type 0 where
   -- Its START STOP UNITs are the accepted pairs of host and CDB, one each: host by host the same CDBs, in the same order,
   pub one_each : (host : ℕ) → gather (begun_in host) serially ≡ gather (begun_in host) real
   -- and all hosts together in the order of their last answers. (A host has one operation at a time, so this says which pair stands where.)
-  pub in_order_lem : gather beginner_in serially ≡ gather ender_in real
+  pub in_order : gather beginner_in serially ≡ gather ender_in real
   -- Among the other calls each stands at the place of its last drive answer. (`same_others` and `in_order` follow from this.)
   pub in_place : gather serial_place serially ≡ gather real_place real
   -- Each is run to its end.
