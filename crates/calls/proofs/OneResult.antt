@@ -112,7 +112,7 @@ one_transition_counts = (λ κs a. tt, λ κs a x y s t. same)
 pub one_new_page : AsksNothing new-page.Asked × OneResult new-page.Post × OneBuffer new-page.Post (λ κs s. s.1.1.0.now)
 one_new_page = (λ κs a. tt, λ κs a x y s t p q. same p.0 q.0, λ κs a x y s t p q. same p.1 q.1)
 
--- ---- document 02, request (v); of the three functions on a reader, which are proved by hand: reader/proofs/OneResult.antt
+-- ---- document 02, request (v); of the three functions on a reader: reader/proofs/OneResult.antt
 
 pub one_page_record : AsksNothing page-record.Asked × OneResult page-record.Post
 one_page_record = (λ κs a. tt, λ κs a x y s t. same)
