@@ -1,0 +1,19 @@
+-- The line's answer is what `respond` gives to the bytes that are kept; it has room, so it stands behind what was printed.
+use mathlib.Core.Path.{◌≡◌, refl, sym}
+use native.Mathlib.Omega.{arith}
+use lib.ListN.{take}
+use Rattle.digits.proofs.Sheets.{room}
+use Rattle.words.proofs.Room.{take_min}
+use Rattle.replies.specs.Lines.{response}
+use Rattle.replies.proofs.Sizes.{answer_fits}
+use Rattle.stream.proofs.end_line.Goals as goal
+
+pub returns : goal.returns
+returns c = let r = c.args.r in
+    let line = c.args.line.now in
+    let kept : take c.smaller-n.result line ≡ take r.len line = rw c.smaller-n.ensures (sym (take_min r.len line)) in
+    let step = rw kept at c.respond-step.ensures in
+    let pieces = (response r.session (take r.len line)).pieces in
+    let small = answer_fits r.session (take r.len line) in
+    let has = room pieces c.args.out.now r.at step.1 (omega (arith, small, c.requires)) in
+    (rw (step.0, has.2), refl, omega (arith, small, has.0))
