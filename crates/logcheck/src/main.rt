@@ -62,6 +62,12 @@ fn open<R: Files>(rt: &R, name: &[u8]) -> Option<R::File> {
     fs::open(rt, path).ok()
 }
 
+fn check_standard(reader: &mut impl Read, writer: &impl Print, errors: &impl Print) {
+    if check(reader, writer).is_err() {
+        complain(errors, b"read ", b"standard input");
+    }
+}
+
 fn check_file(rt: &(impl Env + Files + Print), errors: &impl Print, argument: usize) {
     let mut name = [0u8; 65536];
     let n = rt.arg(argument, &mut name).unwrap_or(0);
@@ -78,11 +84,7 @@ fn check_file(rt: &(impl Env + Files + Print), errors: &impl Print, argument: us
 fn main(rt: HostRuntime) {
     let errors = rt.stderr();
     match intake::source_by(argument_count(&rt)) {
-        Source::Standard => {
-            if check(&mut rt.stdin(), &rt).is_err() {
-                complain(&errors, b"read ", b"standard input");
-            }
-        }
+        Source::Standard => check_standard(&mut rt.stdin(), &rt, &errors),
         Source::File(argument) => check_file(&rt, &errors, argument),
         Source::Misused => {
             let usage =
