@@ -7,7 +7,11 @@ use Prim.Native.Nat.{ℕ, suc, ◌-◌, ◌<◌}
 use native.Mathlib.Nat.{not-suc-le-zero}
 use native.Mathlib.Omega.{arith}
 use lib.Dec.{eqb}
-use lib.ListN.{length, get_or}
+use lib.ListN.{length, get_or, drop, take}
+use denote.Ref.{Bor}
+use Rattle.std.proofs.Common.{Option, Some, None, MatchOption}
+use Rattle.std.specs.Cmp.Lexicographic.{pointwise}
+use Rattle.std.specs.Option.{unwrap_or}
 use Rattle.words.specs.Lines.{before_return}
 
 one_more_lem : (t : Bool) (n : ℕ) → suc (cond t n (suc n)) ≡ cond t (suc n) (suc (suc n))
@@ -28,3 +32,10 @@ pub at_empty : (l : List ℕ) → length l ≡ 0 → before_return l ≡ 0
 unfolding before_return
 at_empty [] e = refl
 at_empty (b ∷ bs) e = omega arith
+
+pub without : (l : List ℕ) (r : Option (Bor (List ℕ)))
+    → MatchOption r (pointwise eqb (drop (length l - 1) l) (code "\r" ∷ []) ≡ false)
+    (λ x. (pointwise eqb (drop (length l - 1) l) (code "\r" ∷ []) ≡ true) × (x.now ≡ take (length l - 1) l) × (length x.now + 1 ≡ length l))
+    → (d : Bor (List ℕ)) → d.now ≡ l → length (unwrap_or r d).now ≡ before_return l
+without l None h d e = ?
+without l (Some x) h d e = ?

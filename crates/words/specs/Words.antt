@@ -2,6 +2,7 @@
 use Rattle.std.specs.Prelude.{Bool, true, false, cond, ◌||◌, Option, Some, None, List, [], ◌∷◌, ℕ, suc, eqb, drop, get_or, take}
 use Prim.Native.Char.{code}
 use Rattle.std.specs.Option.{option_map}
+use Rattle.std.specs.Str.{bytes_eq}
 
 -- "Words are separated by spaces and tabs".
 abbrev pub is_blank : ℕ → Bool
@@ -62,10 +63,7 @@ behind_word line = drop (word_length (behind_blanks line)) (behind_blanks line)
 -- ---- names
 
 abbrev pub same : List ℕ → List ℕ → Bool
-same [] [] = true
-same [] (c ∷ cs) = false
-same (b ∷ bs) [] = false
-same (b ∷ bs) (c ∷ cs) = cond (eqb b c) (same bs cs) false
+same a b = bytes_eq a b
 
 -- The place of a word among names, from 0, if it is one of them.
 unfoldable pub place_in : List ℕ → List (List ℕ) → Option ℕ

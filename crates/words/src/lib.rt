@@ -1,12 +1,12 @@
 // A script's text: lines, words, and the numbers, flags and names that words spell.
 #![tactic(auto)]
 
-ghost use Rattle.std.specs.Prelude.{◌≡◌, ◌+◌, ◌-◌, ◌≤◌, ◌∷◌, [], IfSome, MatchOption, drop, length, take, ◌++◌};
+ghost use Rattle.std.specs.Prelude.{◌≡◌, ◌+◌, ◌-◌, ◌≤◌, ◌∷◌, [], MatchOption, drop, length, take, ◌++◌};
 ghost use Rattle.std.specs.Iterator.{YieldsFirstRef, item_count};
 ghost use Rattle.words.specs.Lines.{before_feed, before_return};
 ghost use Rattle.words.specs.Numbers.{digit_in, word_number, word_flag};
 ghost use Rattle.words.specs.Words;
-ghost use Rattle.words.specs.Words.{is_blank, ends_word, first_word, behind_word, words, word_at, place_in};
+ghost use Rattle.words.specs.Words.{is_blank, ends_word, blanks, word_length, first_word, behind_word, words, word_at, place_in};
 
 // The words of a line, from the first on.
 #[derive(Drop)]
@@ -30,10 +30,7 @@ impl<'a> Iterator for Words<'a> {
 pub fn without_return(line: &[u8]) -> usize
     ensures { (result ≡ before_return line.now) × (result ≤ length line.now) }
 {
-    match line.strip_suffix(b"\r") {
-        Some(rest) => rest.len(),
-        None => line.len(),
-    }
+    line.strip_suffix(b"\r").unwrap_or(line).len()
 }
 
 // Adds bytes to the `len` that `line` has, as many as it has room for, and answers how many it has then.
@@ -41,7 +38,7 @@ pub fn append(line: &mut [u8], len: usize, more: &[u8]) -> usize
     ensures { (take result line.new ≡ take (length line.old) (take len line.old ++ more.now)) × (result ≤ length line.new) }
 {
     let start = len.min(line.len());
-    let count = more.len().min(line.len() - start);
+    let count = (line.len() - start).min(more.len());
     line[start..start + count].copy_from_slice(&more[..count]);
     start + count
 }
@@ -69,14 +66,27 @@ pub fn line_end(text: &[u8], from: usize) -> usize
     }
 }
 
+// How many blanks a text starts with.
+fn blanks(text: &[u8]) -> usize
+    ensures { (result ≡ blanks text.now) × (result ≤ length text.now) }
+{
+    text.iter().position(|b| !is_blank(*b)).unwrap_or(text.len())
+}
+
+// How many bytes of a word a text starts with.
+fn word_length(text: &[u8]) -> usize
+    ensures { (result ≡ word_length text.now) × (result ≤ length text.now) }
+{
+    text.iter().position(|b| ends_word(*b)).unwrap_or(text.len())
+}
+
 // The first word of a line and what follows it, if it has a word.
 pub fn first_word(line: &[u8]) -> Option<(&[u8], &[u8])>
     ensures cases { MatchOption result (words line.now ≡ []) (λ p. words line.now ≡ p.0.now ∷ words p.1.now) }
     ensures places { MatchOption result (first_word line.now ≡ []) (λ p. (p.0.now ≡ first_word line.now) × (p.1.now ≡ behind_word line.now)) }
 {
-    let at = line.iter().position(|b| !is_blank(*b))?;
-    let text = &line[at..];
-    let len = text.iter().position(|b| ends_word(*b)).unwrap_or(text.len());
+    let (_, text) = line.split_at(blanks(line));
+    let len = word_length(text);
     if len == 0 {
         return None;
     }
@@ -106,6 +116,7 @@ fn word_at(line: &[u8], k: usize) -> &[u8]
 }
 
 // How many words the line has.
+#[tactic(auto, using(crate::proofs::Cuts::words_within))]
 pub fn word_count(line: &[u8]) -> usize
     ensures { result ≡ length (words line.now) }
 {
@@ -116,7 +127,7 @@ pub fn word_count(line: &[u8]) -> usize
 fn place_in(w: &[u8], names: &[u8]) -> Option<usize>
     ensures { result ≡ place_in w.now (words names.now) }
 {
-    Words(names).position(|n| n == w)
+    Words(names).position(|n| w == n)
 }
 
 // Which of the names the word of that number is.
