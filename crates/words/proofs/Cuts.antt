@@ -1,14 +1,13 @@
 -- The first word of a text is the letters behind its blanks, and its other words are those of what follows them:
 -- so it is with the first piece and the letters that a text starts with, and pieces that blanks leave empty are no words.
-use mathlib.Core.Path.{◌≡◌, refl, sym, ◌∙◌}
+use mathlib.Core.Path.{◌≡◌, refl, sym, ap, ◌∙◌}
 use mathlib.Core.Bool.{Bool, true, false}
 use mathlib.Core.List.{List, [], ◌∷◌}
-use Prim.Native.Nat.{ℕ, zero, suc, ◌+◌, ◌-◌, ◌≤◌}
-use native.Mathlib.Nat.{add-zero}
+use Prim.Native.Nat.{ℕ, suc, ◌+◌, ◌-◌, ◌≤◌}
 use native.Mathlib.Omega.{arith}
 use borrow.Author.Tests.{eqb-true}
-use lib.ListN.{length, get_or, take, drop}
-use lib.Seq.{drop-drop, get_or-drop}
+use lib.ListN.{length, take, drop, length-drop, drop_of_length-le}
+use lib.Seq.{drop-drop}
 use Rattle.words.specs.Words.{is_blank, is_comment, onto, pieces, nonempty, words, blanks, word_length, behind_blanks, first_word, behind_word}
 
 -- ---- the three kinds of bytes
@@ -88,6 +87,21 @@ module _ (l : List ℕ) where
       let n = word_length (behind_blanks l) in
       let some : n ≡ suc (n - 1) = omega arith in
       sym (skip l) ∙ a_word (behind_blanks l) (n - 1) some
+
+-- ---- word by word
+
+pub none_after : (ws : List (List ℕ)) (i k : ℕ) → i ≤ k → drop i ws ≡ [] → drop k ws ≡ []
+none_after ws i k h e = let none = rw length-drop at (ap length e) in drop_of_length-le ws (omega arith)
+
+pub others_after : (ws others : List (List ℕ)) (w : List ℕ) (i : ℕ) → drop i ws ≡ w ∷ others → others ≡ drop (i + 1) ws
+others_after ws others w i e = rw (← drop-drop, e)
+
+-- what follows the first word of a tail of a line is a tail of that line
+pub tail_of : (l rest : List ℕ) (n : ℕ) → rest ≡ drop n l → behind_word rest ≡ drop (n + (blanks rest + word_length (behind_blanks rest))) l
+tail_of l rest n e =
+    let skipped = blanks rest in
+    let long = word_length (behind_blanks rest) in
+    ap (λ t. drop long (drop skipped t)) e ∙ rw (drop-drop, drop-drop) refl
 
 -- ---- how many
 

@@ -61,4 +61,3 @@ module _ {f : List ℕ → ℕ} {stops : ℕ → Bool} (s : Scan f stops) where
   -- a scan that starts within the text ends within it
   pub scan_within : (l : List ℕ) (i : ℕ) → i ≤ length l → i + f (drop i l) ≤ length l
   scan_within l i h = let rest = rw length-drop at (scan_length (drop i l)) in omega arith
-

@@ -1,5 +1,5 @@
 -- The format page: "All numbers, in and out, are hex without prefix unless this page says decimal". Assumes nothing.
-use Rattle.std.specs.Prelude.{Bool, true, false, cond, Option, Some, None, ◌&&◌, List, [], ◌∷◌, ℕ, ◌+◌, ◌-◌, ◌*◌, eqb, leb, ltb, length}
+use Rattle.std.specs.Prelude.{Bool, true, cond, Option, Some, None, ◌&&◌, List, [], ◌∷◌, ℕ, ◌+◌, ◌-◌, ◌*◌, eqb, leb, ltb, length}
 use Prim.Native.Char.{code}
 use Rattle.std.specs.Option.{option_map}
 use Rattle.words.specs.Codes.{codes}

@@ -1,7 +1,7 @@
 // A script's text: lines, words, and the numbers, flags and names that words spell.
 #![tactic(auto)]
 
-ghost use Rattle.std.specs.Prelude.{◌≡◌, ◌+◌, ◌-◌, ◌≤◌, ◌∷◌, [], MatchOption, drop, length, take, ◌++◌};
+ghost use Rattle.std.specs.Prelude.{◌≡◌, ℕ, ◌+◌, ◌≤◌, ◌∷◌, [], MatchOption, drop, length, take, ◌++◌};
 ghost use Rattle.std.specs.Iterator.{YieldsFirstRef, item_count};
 ghost use Rattle.words.specs.Lines.{before_feed, before_return};
 ghost use Rattle.words.specs.Numbers.{digit_in, word_number, word_flag};
@@ -70,14 +70,18 @@ pub fn line_end(text: &[u8], from: usize) -> usize
 fn blanks(text: &[u8]) -> usize
     ensures { (result ≡ blanks text.now) × (result ≤ length text.now) }
 {
-    text.iter().position(|b| !is_blank(*b)).unwrap_or(text.len())
+    text.iter()
+        .position(|b| !is_blank(*b))
+        .unwrap_or(text.len())
 }
 
 // How many bytes of a word a text starts with.
 fn word_length(text: &[u8]) -> usize
     ensures { (result ≡ word_length text.now) × (result ≤ length text.now) }
 {
-    text.iter().position(|b| ends_word(*b)).unwrap_or(text.len())
+    text.iter()
+        .position(|b| ends_word(*b))
+        .unwrap_or(text.len())
 }
 
 // The first word of a line and what follows it, if it has a word.
@@ -96,7 +100,7 @@ pub fn first_word(line: &[u8]) -> Option<(&[u8], &[u8])>
 // What follows the first k words.
 pub fn after_words(line: &[u8], k: usize) -> &[u8]
     ensures others { words result.now ≡ drop k (words line.now) }
-    ensures tail { result.now ≡ drop (length line.now - length result.now) line.now }
+    ensures tail { (n : ℕ) × (result.now ≡ drop n line.now) }
 {
     let mut rest = line;
     for _ in 0..k {
@@ -175,10 +179,12 @@ pub fn number_at(line: &[u8], k: usize, top: u32) -> Option<u32>
 }
 
 // The byte that it spells.
+#[tactic(auto, using(crate::proofs::Values::within))]
 pub fn byte_at(line: &[u8], k: usize) -> Option<u8>
     ensures { result ≡ word_number 0xFF (word_at k line.now) }
 {
-    number_at(line, k, 0xFF).map(|n| n as u8)
+    let n = number_at(line, k, 0xFF)?;
+    Some(n as u8)
 }
 
 pub fn flag_at(line: &[u8], k: usize) -> Option<bool>

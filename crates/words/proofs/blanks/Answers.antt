@@ -1,11 +1,10 @@
 -- The chain finds the first byte at which the scan ends.
 use mathlib.Core.Bool.{not}
-use mathlib.Core.Path.{◌∙◌}
 use borrow.Author.Tests.{tests}
 use Rattle.std.proofs.Common.{rules}
 use Rattle.std.proofs.lemmas.Iterator.{YieldsList-from_slice}
 use Rattle.std.proofs.lemmas.Iterator.Search.{position_from_yields_List}
-use Rattle.words.specs.Words.{is_blank, ends_word}
+use Rattle.words.specs.Words.{is_blank}
 use Rattle.words.proofs.Scans.{gap, found}
 use Rattle.words.proofs.blanks.Goals as goal
 

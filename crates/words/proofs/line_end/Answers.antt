@@ -1,11 +1,11 @@
 -- The chain finds the first byte at which the scan ends.
 use borrow.Author.Tests.{tests}
-use mathlib.Core.Path.{◌≡◌, ap}
+use mathlib.Core.Path.{ap}
 use native.Mathlib.Omega.{arith}
 use Prim.Native.Char.{code}
 use Prim.Native.Nat.{◌+◌}
 use lib.Dec.{eqb}
-use lib.ListN.{drop, length, length-drop}
+use lib.ListN.{drop, length-drop}
 use Rattle.std.proofs.Common.{rules}
 use Rattle.std.proofs.lemmas.Iterator.{YieldsList-from_slice}
 use Rattle.std.proofs.lemmas.Iterator.Adapters.{YieldsList-from_skip}
