@@ -22,44 +22,17 @@ pub equals : Scan before_equals (λ b. eqb b (code "="))
 unfolding before_equals
 equals = record { none = refl; more = λ b bs. refl }
 
--- what is dropped of a list is at most all of it
-drop_min : (n : ℕ) (l : List ℕ) → drop (min n (length l)) l ≡ drop n l
-drop_min zero l = rw zero-min
-drop_min (suc n) [] = rw min-zero
-drop_min (suc n) (x ∷ l) = rw suc-min-suc (drop_min n l)
-
--- the bytes behind a sign, from there or from the word's end to its end
-pub behind_sign : (w : List ℕ) (sign from : ℕ) → from ≡ min (sign + 1) (length w) → take (length w - from) (drop from w) ≡ drop (suc sign) w
-behind_sign w sign from e =
-    take_all (length w - from) (drop from w) (rw length-drop (omega arith)) ∙ rw (e, drop_min, add-one)
-
 -- ---- the bounds of a pair
 
-pub place_bound : (w : List ℕ) → (pair_in w).place < 256
-place_bound w = omega (arith, at_most 0xFF (take (before_equals w) w))
+bounded : (top : ℕ) (r : Option ℕ) → IfSome r (λ n. n ≤ top) → unwrap_or r 0 ≤ top
+bounded top None h = omega arith
+bounded top (Some n) h = h
 
-pub value_bound : (w : List ℕ) → (pair_in w).value < 65536
-value_bound w = omega (arith, at_most 0xFFFF (drop (suc (before_equals w)) w))
+pub place_bound : (w : List ℕ) → unwrap_or (pair_in w).place 0 < 256
+place_bound w = omega (arith, bounded 0xFF (pair_in w).place (at_most 0xFF (take (before_equals w) w)))
 
--- ---- one pair more
-
--- What is still to be said of the words: that they and those before are pairs, and the page that they make of the bytes so far.
-pub record Left (good : Bool) (bytes : List ℕ) (ws all : List (List ℕ)) : Type 0 where
-  pub pairs : are_pairs all ≡ (good && are_pairs ws)
-  pub page : with_pairs (zeros 0x400) all ≡ with_pairs bytes ws
-
-pub left_all : (bytes : List ℕ) (ws all : List (List ℕ)) → bytes ≡ zeros 0x400 → ws ≡ all → Left true bytes ws all
-left_all bytes ws all e f = rw (e, f) (record { pairs = refl; page = refl })
-
-pub one_more_lem : {good : Bool} {bytes : List ℕ} {all rest : List (List ℕ)} (ws : List (List ℕ)) (w : List ℕ) → ws ≡ w ∷ rest
-    → Left good bytes ws all → Left (good && (pair_in w).good) (with_pair bytes (pair_in w)) rest all
-unfolding are_pairs with_pairs
-one_more_lem ws w e h = record { pairs = rw (e, ← and_assoc) at h.pairs; page = rw e at h.page }
-
-pub no_more : {good : Bool} {bytes : List ℕ} {all : List (List ℕ)} (ws : List (List ℕ)) → ws ≡ []
-    → Left good bytes ws all → (good ≡ are_pairs all) × (bytes ≡ with_pairs (zeros 0x400) all)
-unfolding are_pairs with_pairs
-no_more ws e h = (sym (rw (e, and-true) at h.pairs), sym (rw e at h.page))
+pub value_bound : (w : List ℕ) → unwrap_or (pair_in w).value 0 < 65536
+value_bound w = omega (arith, bounded 0xFFFF (pair_in w).value (at_most 0xFFFF (drop (suc (before_equals w)) w)))
 
 -- ---- the page, cut
 
