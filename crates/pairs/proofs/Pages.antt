@@ -1,26 +1,40 @@
 -- Pair by pair: the pairs read so far and the words that are left make the page. It does not matter whether they are set on the page or on
 -- a longer one that is cut after, since every pair's word lies on the page.
 use mathlib.Core.Path.{◌≡◌, refl, sym, ◌∙◌}
-use mathlib.Core.Bool.{Bool, true, ◌&&◌, and_assoc, and-true}
 use mathlib.Core.List.{List, [], ◌∷◌, map}
 use Prim.Native.Char.{code}
-use Prim.Native.Nat.{ℕ, zero, suc, ◌+◌, ◌-◌, ◌*◌, ◌/◌, ◌%◌, ◌<◌, ◌≤◌, min}
-use native.Mathlib.Nat.{zero-min, min-zero, suc-min-suc}
+use Prim.Native.Nat.{ℕ, suc, ◌+◌, ◌*◌, ◌/◌, ◌%◌, ◌<◌, ◌≤◌}
 use native.Mathlib.Numerals.{add-one}
 use native.Mathlib.Omega.{arith}
 use borrow.Author.Tests.{ne_eqb}
 use lib.Dec.{eqb}
-use lib.ListN.{length, drop, length-drop, length-map, set, take}
-use lib.Seq.{take_all, take-set-lt}
+use lib.ListN.{length, drop, length-drop, drop_of_length-le, length-map, set, take}
+use lib.Seq.{drop-drop, take-set-lt}
+use Rattle.std.proofs.Common.{Option, Some, None, IfSome}
+use Rattle.std.specs.Option.{unwrap_or}
 use Rattle.asked.proofs.Lengths.{take-replicate}
+use Rattle.words.specs.Numbers.{word_number}
 use Rattle.words.proofs.Scans.{Scan}
 use Rattle.words.proofs.Values.{at_most}
 use Rattle.pairs.specs.declared.LinePage.{LinePage}
-use Rattle.pairs.specs.Pairs.{before_equals, pair_in, are_pairs, zeros, with_pair, with_pairs, page_in}
+use Rattle.pairs.specs.declared.Pair.{Pair}
+use Rattle.pairs.specs.Pairs.{before_equals, pair_in, zeros, with_pair, with_pairs, page_in}
 
 pub equals : Scan before_equals (λ b. eqb b (code "="))
 unfolding before_equals
 equals = record { none = refl; more = λ b bs. refl }
+
+-- ---- behind a sign, which is not there where nothing is left
+
+pub behind_sign : (w : List ℕ) (n b : ℕ) (rest : List ℕ) → drop n w ≡ b ∷ rest → rest ≡ drop (suc n) w
+behind_sign w n b rest e = rw (← add-one, ← drop-drop, e)
+
+pub behind_end : (w : List ℕ) (n : ℕ) → length (drop n w) ≡ 0 → drop n w ≡ drop (suc n) w
+behind_end w n e =
+    let short = rw length-drop at e in
+    let none : drop n w ≡ [] = drop_of_length-le w (omega arith) in
+    let none_more : drop (suc n) w ≡ [] = drop_of_length-le w {i = suc n} (omega arith) in
+    none ∙ sym none_more
 
 -- ---- the bounds of a pair
 
@@ -34,17 +48,31 @@ place_bound w = omega (arith, bounded 0xFF (pair_in w).place (at_most 0xFF (take
 pub value_bound : (w : List ℕ) → unwrap_or (pair_in w).value 0 < 65536
 value_bound w = omega (arith, bounded 0xFFFF (pair_in w).value (at_most 0xFFFF (drop (suc (before_equals w)) w)))
 
+pub pair_read : (w : List ℕ) (place value : Option ℕ) → place ≡ word_number 0xFF (take (before_equals w) w)
+    → value ≡ word_number 0xFFFF (drop (suc (before_equals w)) w)
+    → ◌≡◌ {A = Pair} record { place = place; value = value } (pair_in w) × (unwrap_or place 0 < 256) × (unwrap_or value 0 < 65536)
+pair_read w place value e f = rw (e, f) (refl, place_bound w, value_bound w)
+
+-- ---- one pair more
+
+pub one_more_lem : (all bytes : List ℕ) (ws rest : List (List ℕ)) (w : List ℕ) (p : Pair) (place value : ℕ) → ws ≡ w ∷ rest → p ≡ pair_in w
+    → place ≡ unwrap_or p.place 0 → value ≡ unwrap_or p.value 0 → all ≡ with_pairs bytes ws
+    → all ≡ with_pairs (set (set bytes (2 * place) (value % 256)) (2 * place + 1) (value / 256)) rest
+unfolding with_pairs
+one_more_lem all bytes ws rest w p place value e f g h before = let more = rw e at before in rw (g, h, f) more
+
 -- ---- the page, cut
 
 cut_pairs : (ws : List (List ℕ)) (page : List ℕ) → take 0x200 (with_pairs page ws) ≡ with_pairs (take 0x200 page) ws
 unfolding with_pairs
 cut_pairs [] page = refl
 cut_pairs (w ∷ ws) page =
-    let p = pair_in w in
-    let low = set page (2 * p.place) (p.value % 256) in
+    let place = unwrap_or (pair_in w).place 0 in
+    let value = unwrap_or (pair_in w).value 0 in
+    let low = set page (2 * place) (value % 256) in
     let inside = place_bound w in
-    cut_pairs ws (with_pair page p)
-    ∙ rw (take-set-lt 0x200 low (2 * p.place + 1) (p.value / 256) (omega arith), take-set-lt 0x200 page (2 * p.place) (p.value % 256) (omega arith))
+    cut_pairs ws (with_pair page (pair_in w))
+    ∙ rw (take-set-lt 0x200 low (2 * place + 1) (value / 256) (omega arith), take-set-lt 0x200 page (2 * place) (value % 256) (omega arith))
 
 cut_zeros : (n : ℕ) → n ≤ 0x400 → take n (zeros 0x400) ≡ zeros n
 unfolding zeros

@@ -1,14 +1,15 @@
 -- The replay lines of request (v), `faults LEN [W=V ...]` and `record X LEN [W=V ...]`: their pairs, and the page that these make. Assumes nothing.
-use Rattle.std.specs.Prelude.{Bool, cond, ◌&&◌, Option, None, is_some, List, [], ◌∷◌, ℕ, suc, ◌+◌, ◌*◌, ◌/◌, ◌%◌, eqb, drop, replicate, set, take}
+use Rattle.std.specs.Prelude.{Bool, cond, ◌&&◌, Option, Some, is_some, List, [], ◌∷◌, ℕ, suc, ◌+◌, ◌*◌, ◌/◌, ◌%◌, eqb, drop, replicate, set, take}
 use Rattle.std.specs.List.{list_all}
-use Rattle.std.specs.Option.{option_and_then, option_map, unwrap_or}
+use Rattle.std.specs.Option.{unwrap_or}
 use Prim.Native.Char.{code}
 use Rattle.asked.specs.declared.CallLine.TheVariants.{PageFaults, PageRecord}
 use Rattle.asked.specs.declared.Line.{Line}
 use Rattle.asked.specs.declared.Line.TheVariants.{Asks}
+use Rattle.asked.specs.Kinds.{condition_in}
 use Rattle.asked.specs.Lengths.{buffer_length}
-use Rattle.conditions.specs.Conditions.{condition_at}
-use Rattle.words.specs.Fields.{name_in, length_in, condition_letters}
+use Rattle.asked.specs.Offers.{offered, ◌then◌}
+use Rattle.words.specs.Fields.{length_in}
 use Rattle.words.specs.Lines.{line_in}
 use Rattle.words.specs.Numbers.{word_number}
 use Rattle.words.specs.Words.{words}
@@ -64,11 +65,9 @@ page_of k len text = page_in (buffer_length len) (drop k (words (line_in text)))
 -- ---- the lines
 
 unfoldable pub faults_line : List ℕ → Option Line
-faults_line line = cond (are_pairs (drop 2 (words line))) (option_map (λ len. Asks (PageFaults len)) (length_in 1 line)) None
+faults_line line = length_in 1 line then λ len. offered (are_pairs (drop 2 (words line))) (Some (Asks (PageFaults len)))
 
 -- "condition X's record": X as in the block line `c`.
 unfoldable pub record_line : List ℕ → Option Line
 record_line line =
-    cond (are_pairs (drop 3 (words line)))
-    (option_and_then (λ place. option_map (λ len. Asks (PageRecord (condition_at place) len)) (length_in 2 line)) (name_in condition_letters 1 line))
-    None
+    condition_in 1 line then λ c. length_in 2 line then λ len. offered (are_pairs (drop 3 (words line))) (Some (Asks (PageRecord c len)))

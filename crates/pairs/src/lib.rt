@@ -60,6 +60,7 @@ fn are_pairs(line: &[u8], k: usize) -> bool
 }
 
 // As many zeros as the longest page has.
+#[tactic(auto, unfolding(crate::specs::Pairs::zeros))]
 fn blank() -> [u8; 1024]
     ensures { result ≡ zeros 0x400 }
 {
@@ -95,6 +96,7 @@ pub fn page_of(text: &[u8], k: usize, len: u32) -> LinePage
     LinePage { bytes, len }
 }
 
+#[tactic(auto, unfolding(crate::specs::Pairs::faults_line))]
 pub fn faults_line(line: &[u8]) -> Option<Line>
     ensures { result ≡ faults_line line.now }
 {
@@ -102,11 +104,11 @@ pub fn faults_line(line: &[u8]) -> Option<Line>
     are_pairs(line, 2).then_some(Line::Asks(CallLine::PageFaults(len)))
 }
 
+#[tactic(auto, unfolding(crate::specs::Pairs::record_line))]
 pub fn record_line(line: &[u8]) -> Option<Line>
     ensures { result ≡ record_line line.now }
 {
-    let place = words::name_at(line, 1, b"A B C Y Z")?;
+    let c = asked::condition_named(line, 1)?;
     let len = words::number_at(line, 2, 0x400)?;
-    let c = asked::condition_at(place);
     are_pairs(line, 3).then_some(Line::Asks(CallLine::PageRecord(c, len)))
 }

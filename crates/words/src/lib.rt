@@ -187,6 +187,7 @@ pub fn byte_at(line: &[u8], k: usize) -> Option<u8>
     Some(n as u8)
 }
 
+#[tactic(auto, unfolding(crate::specs::Numbers::word_flag, crate::specs::Words::words, crate::specs::Words::pieces, crate::specs::Words::nonempty))]
 pub fn flag_at(line: &[u8], k: usize) -> Option<bool>
     ensures { result ≡ word_flag (word_at k line.now) }
 {

@@ -1,0 +1,16 @@
+-- At each turn the pairs read so far and the words that the iterator has left make the page.
+use mathlib.Core.Path.{sym}
+use Rattle.pairs.specs.Pairs.{with_pairs}
+use Rattle.pairs.proofs.Pages.{one_more_lem}
+use Rattle.pairs.proofs.read_pairs.Goals as goal
+
+pub loop-w-init : goal.loop-w-init
+loop-w-init c = rw (c.blank-bytes.ensures, c.into_iter-w-iterator.ensures.into_iter_gives, c.after_words.ensures.others)
+
+pub loop-w-preserved : goal.loop-w-preserved
+loop-w-preserved c = one_more_lem _ c.loop-w.bytes _ _ _ c.pair_in-p.result c.unwrap_or.result c.unwrap_or-value.result
+    c.in-Some.ensures.steps c.pair_in-p.ensures.0 c.unwrap_or.ensures c.unwrap_or-value.ensures c.loop-w.invariant
+
+pub returns : goal.returns
+unfolding with_pairs
+returns c = sym (rw c.in-None.ensures.steps.0 at c.loop-w.invariant)
