@@ -11,7 +11,7 @@ use requests::Reply;
 
 // START STOP UNIT's bytes: the first `len` of these. A length beside them, since the layer has no heap.
 #[derive(Clone, Copy)]
-pub struct Cdb {
+pub struct CdbBytes {
     pub bytes: [u8; 40],
     pub len: usize,
 }
@@ -165,8 +165,8 @@ pub fn make_line(line: &[u8]) -> Option<Line>
 }
 
 // The bytes from word 2 on, if each of these is one and there are no more than 40.
-fn cdb_in(line: &[u8]) -> Option<Cdb>
-    ensures { is_some result ≡ is_cdb line.now }
+fn cdb_in(line: &[u8]) -> Option<CdbBytes>
+    ensures spelled { is_some result ≡ is_cdb line.now }
     ensures told { MatchOption result (cdb_in line.now ≡ []) (λ cdb. (take cdb.len cdb.bytes ≡ cdb_in line.now) × (cdb.len ≤ 40)) }
 {
     let len = words::word_count(line).saturating_sub(2);
@@ -177,7 +177,7 @@ fn cdb_in(line: &[u8]) -> Option<Cdb>
     for i in 0..len {
         bytes[i] = words::byte_at(line, i + 2)?;
     }
-    Some(Cdb { bytes, len })
+    Some(CdbBytes { bytes, len })
 }
 
 #[tactic(auto, unfolding(crate::specs::Commands::start_stop_line))]
@@ -190,8 +190,8 @@ pub fn start_stop_line(line: &[u8]) -> Option<Line>
 }
 
 // The bytes of START STOP UNIT on a line.
-pub fn cdb(text: &[u8]) -> Option<Cdb>
-    ensures { is_some result ≡ is_cdb (line_in text.now) }
+pub fn cdb(text: &[u8]) -> Option<CdbBytes>
+    ensures spelled { is_some result ≡ is_cdb (line_in text.now) }
     ensures told { MatchOption result (cdb_in (line_in text.now) ≡ []) (λ cdb. (take cdb.len cdb.bytes ≡ cdb_in (line_in text.now)) × (cdb.len ≤ 40)) }
 {
     let end = words::without_return(text);

@@ -1,0 +1,57 @@
+-- At each turn the bytes so far and the words from `i` on make the CDB, and the line is one if all of these words are bytes.
+use mathlib.Core.Path.{◌≡◌, refl, sym, ◌∙◌}
+use Prim.Native.Nat.{◌+◌, ◌<◌, ◌≤◌}
+use native.Mathlib.Omega.{arith}
+use borrow.Author.Tests.{le-leb, lt-leb}
+use lib.ListN.{length, take, length-drop, length-set}
+use Rattle.words.specs.Words.{words}
+use Rattle.commands.specs.Commands.{byte_words, cdb_in, is_cdb}
+use Rattle.commands.proofs.Cdbs.{byte_word, next_word, no_more}
+use Rattle.commands.proofs.cdb_in.Goals as goal
+
+pub returns-then-len-gt40-clause-spelled : goal.returns-then-len-gt40-clause-spelled
+unfolding is_cdb
+returns-then-len-gt40-clause-spelled c = rw (lt-leb (length (words c.args.line.now)) 42 (omega arith)) refl
+
+pub returns-then-len-gt40-clause-told : goal.returns-then-len-gt40-clause-told
+unfolding is_cdb cdb_in
+returns-then-len-gt40-clause-told c = rw (lt-leb (length (words c.args.line.now)) 42 (omega arith)) refl
+
+pub loop-i-init : goal.loop-i-init
+unfolding is_cdb
+loop-i-init c = (rw (le-leb (length (words c.args.line.now)) 42 (omega arith)) refl, refl, refl)
+
+pub returns-in_err-bytes-clause-spelled : goal.returns-in_err-bytes-clause-spelled
+returns-in_err-bytes-clause-spelled c =
+    let line = c.args.line.now in
+    let step = next_word c.loop-i.bytes (byte_words line) c.loop-i.i (rw length-drop (omega arith)) (omega arith) in
+    let none = rw (← byte_word line c.loop-i.i, ← c.byte_at.ensures, c.in_err-bytes.was) at step in
+    rw c.from_residual.ensures (sym (c.loop-i.invariant.0 ∙ none))
+
+pub returns-in_err-bytes-clause-told : goal.returns-in_err-bytes-clause-told
+unfolding cdb_in
+returns-in_err-bytes-clause-told c =
+    let line = c.args.line.now in
+    let step = next_word c.loop-i.bytes (byte_words line) c.loop-i.i (rw length-drop (omega arith)) (omega arith) in
+    let none = rw (← byte_word line c.loop-i.i, ← c.byte_at.ensures, c.in_err-bytes.was) at step in
+    rw (c.from_residual.ensures, c.loop-i.invariant.0 ∙ none) refl
+
+pub loop-i-preserved : goal.loop-i-preserved
+loop-i-preserved c =
+    let line = c.args.line.now in
+    let step = next_word c.loop-i.bytes (byte_words line) c.loop-i.i (rw length-drop (omega arith)) (omega arith) in
+    let next = rw (← byte_word line c.loop-i.i, ← c.byte_at.ensures, c.in_ok-bytes.was) at step in
+    (c.loop-i.invariant.0 ∙ next.0, c.loop-i.invariant.1 ∙ next.1, simp (length-set, c.loop-i.invariant.2))
+
+pub returns-clause-spelled : goal.returns-clause-spelled
+returns-clause-spelled c =
+    let last = no_more c.loop-i.bytes (byte_words c.args.line.now) c.loop-i.i (rw length-drop (omega arith)) in
+    sym (c.loop-i.invariant.0 ∙ last.0)
+
+pub returns-clause-told : goal.returns-clause-told
+unfolding cdb_in
+returns-clause-told c =
+    let line = c.args.line.now in
+    let last = no_more (take c.loop-i.i c.loop-i.bytes) (byte_words line) c.loop-i.i (rw length-drop (omega arith)) in
+    let all : c.loop-i.i ≡ c.saturating_sub-len.result = omega arith in
+    (rw (c.loop-i.invariant.0 ∙ last.0, ← all) (sym (c.loop-i.invariant.1 ∙ last.1)), omega arith)
