@@ -76,7 +76,8 @@ fn read_words(line: &[u8]) -> Option<Line>
     if words::word_count(line) == 0 {
         return Some(Line::Blank);
     }
-    let calls = b"tick epc read write reset ssu next answer sense log trans faults record page make";
+    let calls =
+        b"tick epc read write reset ssu next answer sense log trans faults record page make";
     match words::name_at(line, 0, calls) {
         Some(place) => call_at(line, place),
         None => read_in_block(line),
