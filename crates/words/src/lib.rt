@@ -5,7 +5,6 @@ ghost use Rattle.std.specs.Prelude.{◌≡◌, ℕ, ◌+◌, ◌≤◌, ◌∷�
 ghost use Rattle.std.specs.Iterator.{YieldsFirstRef, item_count};
 ghost use Rattle.words.specs.Lines.{before_feed, before_return};
 ghost use Rattle.words.specs.Numbers.{digit_in, word_number, word_flag};
-ghost use Rattle.words.specs.Words;
 ghost use Rattle.words.specs.Words.{is_blank, ends_word, blanks, word_length, first_word, behind_word, words, word_at, place_in};
 
 // The words of a line, from the first on.
@@ -15,9 +14,9 @@ pub struct Words<'a>(pub &'a [u8]);
 impl<'a> Iterator for Words<'a> {
     type Item = &'a [u8];
 
-    ghost next_gives = { YieldsFirstRef (λ s. Words.words s.0.now) };
+    ghost next_gives = { YieldsFirstRef (λ s. words s.0.now) };
 
-    ghost remaining = { item_count (λ s. Words.words s.0.now) };
+    ghost remaining = { item_count (λ s. words s.0.now) };
 
     fn next(&mut self) -> Option<&'a [u8]> {
         let (word, others) = first_word(self.0)?;
