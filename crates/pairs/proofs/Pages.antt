@@ -1,15 +1,16 @@
 -- Pair by pair: the pairs read so far and the words that are left make the page. It does not matter whether they are set on the page or on
 -- a longer one that is cut after, since every pair's word lies on the page.
-use mathlib.Core.Path.{◌≡◌, refl, sym, ◌∙◌}
+use mathlib.Core.Path.{◌≡◌, refl, sym, ap, ◌∙◌}
 use mathlib.Core.List.{List, [], ◌∷◌, map}
 use Prim.Native.Char.{code}
 use Prim.Native.Nat.{ℕ, suc, ◌+◌, ◌*◌, ◌/◌, ◌%◌, ◌<◌, ◌≤◌}
+use native.Mathlib.Nat.{add-zero}
 use native.Mathlib.Numerals.{add-one}
 use native.Mathlib.Omega.{arith}
 use borrow.Author.Tests.{ne_eqb}
 use lib.Dec.{eqb}
 use lib.ListN.{length, drop, length-drop, drop_of_length-le, length-map, set, take}
-use lib.Seq.{drop-drop, take-set-lt}
+use lib.Seq.{drop-drop, paste, paste-suc, paste-zero, take-set-lt}
 use Rattle.std.proofs.Common.{Option, Some, None, IfSome}
 use Rattle.std.specs.Option.{unwrap_or}
 use Rattle.asked.proofs.Lengths.{take-replicate}
@@ -55,11 +56,27 @@ pair_read w place value e f = rw (e, f) (refl, place_bound w, value_bound w)
 
 -- ---- one pair more
 
-pub one_more_lem : (all bytes : List ℕ) (ws rest : List (List ℕ)) (w : List ℕ) (p : Pair) (place value : ℕ) → ws ≡ w ∷ rest → p ≡ pair_in w
-    → place ≡ unwrap_or p.place 0 → value ≡ unwrap_or p.value 0 → all ≡ with_pairs bytes ws
-    → all ≡ with_pairs (set (set bytes (2 * place) (value % 256)) (2 * place + 1) (value / 256)) rest
+-- two bytes put at a place
+two_put : (page : List ℕ) (at low high : ℕ) → at + 2 ≤ length page → paste page at (low ∷ high ∷ []) 2 ≡ set (set page at low) (at + 1) high
+two_put page at low high h =
+    let both = low ∷ high ∷ [] in
+    let none : set (paste page at both 0) (at + 0) low ≡ set page at low =
+    ap (λ i. set (paste page at both 0) i low) (add-zero at) ∙ ap (λ l. set l at low) (sym (paste-zero page at both)) in
+    let one : paste page at both 1 ≡ set page at low = sym (paste-suc page at both 0 0 (omega arith) (omega arith)) ∙ none in
+    sym (paste-suc page at both 1 0 (omega arith) (omega arith)) ∙ ap (λ l. set l (at + 1) high) one
+
+pub one_more_lem : (all page : List ℕ) (ws rest : List (List ℕ)) (w : List ℕ) (p : Pair) (place value : ℕ) → ws ≡ w ∷ rest → p ≡ pair_in w
+    → place ≡ unwrap_or p.place 0 → value ≡ unwrap_or p.value 0 → length page ≡ 1024 → all ≡ with_pairs page ws
+    → all ≡ with_pairs (paste page (2 * place) (value % 256 ∷ (value / 256) % 256 ∷ []) 2) rest
 unfolding with_pairs
-one_more_lem all bytes ws rest w p place value e f g h before = let more = rw e at before in rw (g, h, f) more
+one_more_lem all page ws rest w p place value e f g h long before =
+    let more = rw e at before in
+    let at : place ≡ unwrap_or (pair_in w).place 0 = rw f at g in
+    let v : value ≡ unwrap_or (pair_in w).value 0 = rw f at h in
+    let low = place_bound w in
+    let small = value_bound w in
+    let high : (value / 256) % 256 ≡ value / 256 = omega arith in
+    rw (high, two_put page (2 * place) (value % 256) (value / 256) (omega arith), at, v) more
 
 -- ---- the page, cut
 

@@ -75,9 +75,8 @@ fn read_pairs(line: &[u8], k: usize) -> [u8; 1024]
     for w in Words(words::after_words(line, k)) {
         let p = pair_in(w);
         let place = 2 * p.place.unwrap_or(0) as usize;
-        let value = p.value.unwrap_or(0);
-        bytes[place] = (value % 256) as u8;
-        bytes[place + 1] = (value / 256) as u8;
+        let value = (p.value.unwrap_or(0) as u16).to_le_bytes();
+        bytes[place..place + 2].copy_from_slice(&value);
     }
     bytes
 }
