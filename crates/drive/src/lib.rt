@@ -18,14 +18,14 @@ pub enum Edition {
 }
 
 // Timers and the idle count: tenths of a second. 32 bits: published timers need them, and a number above the largest can be said and refused.
-#[derive(Clone, Copy)]
+#[derive(Clone, Copy, PartialEq, Eq)]
 pub struct Tenths(pub u32);
 
 // Recovery times: milliseconds.
 #[derive(Clone, Copy)]
 pub struct Millis(pub u32);
 
-#[derive(Clone, Copy)]
+#[derive(Clone, Copy, PartialEq, Eq)]
 pub struct Setting {
     pub enabled: bool,
     pub timer: Tenths,

@@ -11,10 +11,11 @@ use Rattle.pages.specs.Readings.{page_word, page_setting, record_from, page_reco
 use Rattle.faults.specs.declared.Fault.{Fault}
 use Rattle.faults.specs.declared.FaultKind.{FaultKind}
 use Rattle.faults.specs.declared.FaultKind.TheVariants.{ReservedWord, ReservedBits, SetUnsupported, NoTimer, SavedOff}
-use Rattle.faults.specs.Inner.{Gathered, noted, added_if, nonzero_from, head_faults, setting_faults, named_faults}
-use Rattle.faults.specs.Listing.{faults_at, faults_from}
+use Rattle.faults.specs.declared.Faults.{Faults}
+use Rattle.faults.specs.Inner.{noted, added_if, nonzero_from, head_faults, setting_faults, named_faults}
+use Rattle.faults.specs.Listing.{faults_at, faults_from, listing}
 use Rattle.faults.specs.Tests.{is_at, owner_of, is_reserved_word, is_set_unsupported, enabled_without_timer, is_saved_off, is_fault}
-use Rattle.faults.proofs.Noted.{noted_then}
+use Rattle.faults.proofs.Noted.{noted_then, noted_listing, from_few}
 use Rattle.faults.proofs.Where.{is_at_lem, is_reserved, owner}
 
 -- ---- the list of so many words
@@ -29,6 +30,18 @@ from_append page w (suc n) m =
     let more : suc n + m ≡ suc (n + m) = omega arith in
     let next : w + suc n ≡ suc w + n = omega arith in
     rw (more, next, from_append page (suc w) n m) (sym (append_assoc (faults_at page w) (faults_from page (suc w) n) (faults_from page (suc w + n) m)))
+
+-- The words from 0 on, and then so many more of them.
+pub listed_then : (page : List ℕ) (n k m : ℕ) {f g : Faults} → f ≡ listing (faults_from page 0 n) → g ≡ noted f (faults_from page n k)
+    → m ≡ n + k → m ≤ 256 → g ≡ listing (faults_from page 0 m)
+listed_then page n k m {f} before then all few =
+    let start : 0 + n ≡ n = omega arith in
+    let first = from_few page 0 n in
+    let next = from_few page n k in
+    then ∙ ap (λ (l : Faults). noted l (faults_from page n k)) before
+    ∙ noted_listing (faults_from page 0 n) (faults_from page n k) (omega arith)
+    ∙ ap (λ (w : ℕ). listing (faults_from page 0 n ++ faults_from page w k)) (sym start)
+    ∙ ap listing (sym (from_append page 0 n k)) ∙ ap (λ (j : ℕ). listing (faults_from page 0 j)) (sym all)
 
 -- ---- reserved bits, as the code tests them
 
@@ -179,14 +192,14 @@ nonzero_append page w (suc n) =
     rw next (ap (λ (l : List Fault). first ++ l) (nonzero_append page (suc w) n)
     ∙ sym (append_assoc first (nonzero_from page (suc w) n) (added_if (not (eqb (page_word page (suc w + n)) 0)) ReservedWord (suc w + n) [])))
 
-pub nonzero_more : (page : List ℕ) (from w : ℕ) (f₀ : Gathered) {f g : Gathered} (b : Bool) → from ≤ w
+pub nonzero_more : (page : List ℕ) (from w n : ℕ) (f₀ : Faults) {f g : Faults} (b : Bool) → from ≤ w → n ≡ w + 1 - from
     → f ≡ noted f₀ (nonzero_from page from (w - from)) → b ≡ not (eqb (page_word page w) 0) → g ≡ noted f (added_if b ReservedWord w [])
-    → g ≡ noted f₀ (nonzero_from page from (w + 1 - from))
-nonzero_more page from w f₀ b h before test after =
-    let count : w + 1 - from ≡ suc (w - from) = omega arith in
+    → g ≡ noted f₀ (nonzero_from page from n)
+nonzero_more page from w n f₀ b h total before test after =
+    let count : n ≡ suc (w - from) = omega arith in
     let place : from + (w - from) ≡ w = omega arith in
     noted_then f₀ (nonzero_from page from (w - from)) (added_if b ReservedWord w []) before after
     ∙ ap (λ (t : Bool). noted f₀ (nonzero_from page from (w - from) ++ added_if t ReservedWord w [])) test
     ∙ ap (λ (v : ℕ). noted f₀ (nonzero_from page from (w - from) ++ added_if (not (eqb (page_word page v) 0)) ReservedWord v [])) (sym place)
     ∙ ap (noted f₀) (sym (nonzero_append page from (w - from)))
-    ∙ ap (λ (n : ℕ). noted f₀ (nonzero_from page from n)) (sym count)
+    ∙ ap (λ (k : ℕ). noted f₀ (nonzero_from page from k)) (sym count)
