@@ -2,7 +2,7 @@
 // and what is wrong with the page.
 #![tactic(auto)]
 
-ghost use Rattle.std.specs.Prelude.{◌≡◌};
+ghost use Rattle.std.specs.Prelude.{◌≡◌, length};
 ghost use Rattle.conditions.specs.Conditions.{condition_at};
 ghost use Rattle.reader.specs.PageCalls.{record_outcome, faults_outcome};
 
@@ -32,6 +32,14 @@ pub struct Checked {
     pub faults: Faults,
 }
 
+// A page of that length, as one that has it by its type.
+fn whole(page: &[u8]) -> &[u8; 512]
+    requires { length page.now ≡ 512 }
+    ensures { result.now ≡ page.now }
+{
+    page.try_into().unwrap()
+}
+
 // The work on slice and number: the record of the condition of that place.
 fn record_in(page: &[u8], place: usize) -> PageRecord
     ensures { result ≡ record_outcome page.now (condition_at place) }
@@ -39,7 +47,7 @@ fn record_in(page: &[u8], place: usize) -> PageRecord
     let at = if place < 5 { place } else { 0 };
     let v = refusals::reader_verdict(page.len());
     match v {
-        Verdict::Clear => PageRecord::Found(faults::record_of(page, at)),
+        Verdict::Clear => PageRecord::Found(faults::record_of(whole(page), at)),
         Verdict::Given(r) => PageRecord::NotRead(r),
     }
 }
@@ -52,7 +60,7 @@ fn faults_in(page: &[u8]) -> Checked
     match v {
         Verdict::Clear => Checked {
             answer: Answer::Done,
-            faults: faults::faults_of(page),
+            faults: faults::faults_of(whole(page)),
         },
         Verdict::Given(r) => Checked {
             answer: Answer::Refused(r),

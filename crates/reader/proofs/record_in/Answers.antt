@@ -21,14 +21,14 @@ within place at below e = (omega arith, ap condition_at e)
 beyond : (place at : ℕ) → 5 ≤ place → at ≡ 0 → Stands place at
 beyond place at above e = (omega arith, ap condition_at e ∙ sym (get_or-eq_default falling IdleA above))
 
+pub whole-requires : goal.whole-requires
+whole-requires c = page_whole c.args.page.now _ c.reader_verdict-v.ensures c.in-Clear.is
+
 pub record_of-requires : goal.record_of-requires
-record_of-requires c = (
-  page_whole c.args.page.now _ c.reader_verdict-v.ensures c.in-Clear.is,
-  elim c.if-place-lt5.branch [
-    | then-place-lt5 w ↦ (within _ _ w.if-place-lt5.true w.at-is).0
-    | else-place-lt5 w ↦ (beyond c.args.place _ w.if-place-lt5.false w.at-is).0
-  ],
-)
+record_of-requires c = elim c.if-place-lt5.branch [
+  | then-place-lt5 w ↦ (within _ _ w.if-place-lt5.true w.at-is).0
+  | else-place-lt5 w ↦ (beyond c.args.place _ w.if-place-lt5.false w.at-is).0
+]
 
 pub returns-in-Clear : goal.returns-in-Clear
 returns-in-Clear c =
@@ -36,7 +36,7 @@ returns-in-Clear c =
       | then-place-lt5 w ↦ (within _ _ w.if-place-lt5.true w.at-is).1
       | else-place-lt5 w ↦ (beyond c.args.place _ w.if-place-lt5.false w.at-is).1
     ] in
-    ap Found (c.record_of.ensures ∙ ap (page_record c.args.page.now) same)
+    ap Found (c.record_of.ensures ∙ λ i. page_record (c.whole.ensures i) (same i))
     ∙ record_by_lem c.args.page.now _ c.reader_verdict-v.ensures _ Clear c.in-Clear.is
 
 pub returns-in-Given : goal.returns-in-Given
