@@ -13,24 +13,6 @@ unfolding noted
 noted_append g [] m = refl
 noted_append g (x ∷ l) m = noted_append (added g x) l m
 
--- One that may be wrong, and then the others.
-noted_if : (g : Faults) (b : Bool) (kind : FaultKind) (w : ℕ) (l : List Fault)
-    → noted g (added_if b kind w l) ≡ noted (noted g (added_if b kind w [])) l
-unfolding noted
-noted_if g true kind w l = refl
-noted_if g false kind w l = refl
-
--- Two steps, one after the other.
-pub noted_then : (f : Faults) {g h : Faults} (l m : List Fault) → g ≡ noted f l → h ≡ noted g m → h ≡ noted f (l ++ m)
-noted_then f l m first then = then ∙ ap (λ (x : Faults). noted x m) first ∙ sym (noted_append f l m)
-
--- Two kinds at one word, as they were tested.
-pub noted_two : (f : Faults) {g h : Faults} {b b' d d' : Bool} (j k : FaultKind) (w : ℕ) → b ≡ b' → d ≡ d'
-    → g ≡ noted f (added_if b j w []) → h ≡ noted g (added_if d k w []) → h ≡ noted f (added_if b' j w (added_if d' k w []))
-noted_two f {g} {h} {b} {b'} {d} j k w p q first then =
-    then ∙ ap (λ (x : Faults). noted x (added_if d k w [])) first ∙ sym (noted_if f b j w (added_if d k w []))
-    ∙ (λ i. noted f (added_if (p i) j w (added_if (q i) k w [])))
-
 -- ---- the first so many
 
 ltb_suc : (m n : ℕ) → ltb (suc m) (suc n) ≡ ltb m n
@@ -46,7 +28,7 @@ module _ {A : Type 0} where
   cond_cons false x l m = refl
 
 -- One more takes the place after the last, where that is among the first n; else they stay.
-pub first_more : (n : ℕ) (m : List Fault) (x : Fault)
+first_more : (n : ℕ) (m : List Fault) (x : Fault)
     → cond (ltb (length m) n) (set (first_with_blanks n m) (length m) x) (first_with_blanks n m) ≡ first_with_blanks n (m ++ (x ∷ []))
 unfolding first_with_blanks
 first_more zero m x = same_cond (ltb (length m) 0) []

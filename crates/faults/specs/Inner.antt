@@ -29,11 +29,11 @@ noted l (x ∷ more) = noted (added l x) more
 
 -- At +1, of the record r.
 abbrev pub head_faults : List ℕ → ℕ → Record → List Fault
-head_faults page w r = added_if (some_one 12 0 (page_word page w)) ReservedBits w (added_if (is_set_unsupported r) SetUnsupported w [])
+head_faults page w r = added_if (some_one 12 0 (page_word page w)) ReservedBits w [] ++ added_if (is_set_unsupported r) SetUnsupported w []
 
 -- At the flag word of the setting s, but for kind 4.
 abbrev pub setting_faults : List ℕ → ℕ → Setting → List Fault
-setting_faults page w s = added_if (some_one 14 0 (page_word page w)) ReservedBits w (added_if (enabled_without_timer s) NoTimer w [])
+setting_faults page w s = added_if (some_one 14 0 (page_word page w)) ReservedBits w [] ++ added_if (enabled_without_timer s) NoTimer w []
 
 -- At +0 to +7 of a condition whose words begin at w and say r.
 abbrev pub named_faults : List ℕ → ℕ → Record → List Fault

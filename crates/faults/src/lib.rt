@@ -30,6 +30,7 @@ pub struct Fault {
 }
 
 // How many faults a page has, and the first 64; kind 0 at word 0 fills the places after the last.
+// Stays an array, blanks and a count: no heap here, the count goes on past the 64th, and `faults/Order · listed_blank` says what the blanks are.
 #[derive(Clone, Copy)]
 pub struct Faults {
     pub total: u32,
@@ -96,7 +97,7 @@ pub fn record_of(page: &[u8; 512], place: usize) -> Record
     requires { place < 5 }
     ensures { result ≡ page_record page.now (condition_at place) }
 {
-    record_from(page, 16 * place as u8)
+    record_from(page, 16 * (place as u8))
 }
 
 // ---- the list
@@ -165,6 +166,7 @@ fn is_saved_off(r: Record) -> bool
 }
 
 // The faults of a condition's own flag word, +1.
+#[tactic(auto, using(crate::proofs::Noted::noted_append))]
 fn head_faults(page: &[u8; 512], w: u8, r: Record, faults: &mut Faults)
     ensures { faults.new ≡ noted faults.old (Inner.head_faults page.now w r) }
 {
@@ -174,6 +176,7 @@ fn head_faults(page: &[u8; 512], w: u8, r: Record, faults: &mut Faults)
 }
 
 // The faults of a setting that was read, at its flag word, but for kind 4.
+#[tactic(auto, using(crate::proofs::Noted::noted_append))]
 fn setting_faults(page: &[u8; 512], w: u8, s: Setting, faults: &mut Faults)
     ensures { faults.new ≡ noted faults.old (Inner.setting_faults page.now w s) }
 {
@@ -184,6 +187,7 @@ fn setting_faults(page: &[u8; 512], w: u8, s: Setting, faults: &mut Faults)
 }
 
 // The faults of the words that 001 names, +0 to +7 of a condition.
+#[tactic(auto, using(crate::proofs::Noted::noted_append))]
 fn named_faults(page: &[u8; 512], w: u8, faults: &mut Faults)
     requires { w < 80 }
     ensures { faults.new ≡ noted faults.old (Inner.named_faults page.now w (record_from page.now w)) }
@@ -196,7 +200,8 @@ fn named_faults(page: &[u8; 512], w: u8, faults: &mut Faults)
     setting_faults(page, w + 6, r.current, faults);
 }
 
-// The words from one place to another that are not zero, the last place too.
+// The words that are not zero from one place to another, the last one too.
+#[tactic(auto, using(crate::proofs::Spots::reserved_steps))]
 fn reserved_faults(page: &[u8; 512], from: u8, last: u8, faults: &mut Faults)
     ensures { faults.new ≡ noted faults.old (Inner.nonzero_from page.now from (last + 1 - from)) }
 {
@@ -206,6 +211,7 @@ fn reserved_faults(page: &[u8; 512], from: u8, last: u8, faults: &mut Faults)
 }
 
 // The faults of a condition's sixteen words.
+#[tactic(auto, using(crate::proofs::Noted::noted_append, crate::proofs::Spots::condition_words))]
 fn condition_faults(page: &[u8; 512], place: u8, faults: &mut Faults)
     requires { place < 5 }
     ensures { faults.new ≡ noted faults.old (faults_from page.now (16 * place) 16) }
@@ -216,6 +222,7 @@ fn condition_faults(page: &[u8; 512], place: u8, faults: &mut Faults)
 }
 
 // Every fault of the page, by place, and at one place by kind.
+#[tactic(auto, using(crate::proofs::Spots::page_steps))]
 pub fn faults_of(page: &[u8; 512]) -> Faults
     ensures { result ≡ listing (faults_of page.now) }
 {
