@@ -13,7 +13,7 @@ use drive::Record;
 use requests::{Request, Stage, Target};
 
 // What a CDB asks for.
-#[derive(Clone, Copy)]
+#[derive(Clone, Copy, PartialEq, Eq)]
 pub enum Wanted {
     Unlisted,
     Wants(Target),

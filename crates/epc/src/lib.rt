@@ -13,7 +13,7 @@ use conditions::{Cause, Condition, Power};
 use drive::{Drive, Edition, Record, Setting, Tenths};
 use registers::{Named, Registers};
 
-#[derive(Clone, Copy)]
+#[derive(Clone, Copy, PartialEq, Eq)]
 pub enum Sub {
     Restore,
     GoTo,
@@ -117,7 +117,7 @@ fn barred(goes: bool, save: bool, r: Record) -> bool
 }
 
 // What the conditions that FFh selects say together: whether there is one, and whether one of them bars the subcommand.
-#[derive(Clone, Copy)]
+#[derive(Clone, Copy, PartialEq, Eq)]
 struct Seen {
     some: bool,
     barred: bool,

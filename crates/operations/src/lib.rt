@@ -12,7 +12,7 @@ use registers::Registers;
 use requests::{Failure, Reply, Request, Stage, Target};
 
 // The command that an operation is due to send.
-#[derive(Clone, Copy)]
+#[derive(Clone, Copy, PartialEq, Eq)]
 pub enum Due {
     Flush,
     StandbyImmediate,
@@ -21,7 +21,7 @@ pub enum Due {
 }
 
 // START STOP UNIT's answer: accepted with GOOD due at once or with the last answer, or refused.
-#[derive(Clone, Copy)]
+#[derive(Clone, Copy, PartialEq, Eq)]
 pub enum Acceptance {
     GoodDue,
     Pending,
@@ -29,14 +29,14 @@ pub enum Acceptance {
 }
 
 // The answer to a host that asks for its next command.
-#[derive(Clone, Copy)]
+#[derive(Clone, Copy, PartialEq, Eq)]
 pub enum Next {
     Send(Registers),
     NotSent(Refusal),
 }
 
 // The status that an operation's end gives its host; with IMMED it had GOOD on acceptance.
-#[derive(Clone, Copy)]
+#[derive(Clone, Copy, PartialEq, Eq)]
 pub enum Status {
     NoStatus,
     GoodStatus,
@@ -44,7 +44,7 @@ pub enum Status {
 }
 
 // The end report. Beside no status, a sense is one that is now held.
-#[derive(Clone, Copy)]
+#[derive(Clone, Copy, PartialEq, Eq)]
 pub struct Report {
     pub status: Status,
     pub sense: SenseDue,
@@ -52,7 +52,7 @@ pub struct Report {
 }
 
 // What an answer leaves of its operation: more to send, or its end.
-#[derive(Clone, Copy)]
+#[derive(Clone, Copy, PartialEq, Eq)]
 pub enum Progress {
     More,
     Ended(Report),

@@ -1,3 +1,4 @@
+pub mod Chains
 pub mod Choices
 pub mod Copied
 pub mod Folds
