@@ -21,7 +21,7 @@ pub enum Due {
 }
 
 // START STOP UNIT's answer: accepted with GOOD due at once or with the last answer, or refused.
-#[derive(Clone, Copy, PartialEq, Eq)]
+#[derive(Clone, Copy)]
 pub enum Acceptance {
     GoodDue,
     Pending,
@@ -29,7 +29,7 @@ pub enum Acceptance {
 }
 
 // The answer to a host that asks for its next command.
-#[derive(Clone, Copy, PartialEq, Eq)]
+#[derive(Clone, Copy)]
 pub enum Next {
     Send(Registers),
     NotSent(Refusal),
@@ -44,7 +44,7 @@ pub enum Status {
 }
 
 // The end report. Beside no status, a sense is one that is now held.
-#[derive(Clone, Copy, PartialEq, Eq)]
+#[derive(Clone, Copy)]
 pub struct Report {
     pub status: Status,
     pub sense: SenseDue,
@@ -52,7 +52,7 @@ pub struct Report {
 }
 
 // What an answer leaves of its operation: more to send, or its end.
-#[derive(Clone, Copy, PartialEq, Eq)]
+#[derive(Clone, Copy)]
 pub enum Progress {
     More,
     Ended(Report),
@@ -101,27 +101,20 @@ fn due_at(stage: Stage, unsaved: bool, last: Due) -> Due
 pub fn due_from(unsaved: bool, q: Request) -> Due
     ensures { result ≡ due_from unsaved q }
 {
-    let stage = q.stage;
-    let target = q.target;
-    due_at(stage, unsaved, last_of(target))
+    due_at(q.stage, unsaved, last_of(q.target))
 }
 
 pub fn is_flush(d: Due) -> bool
     ensures { result ≡ is_flush d }
 {
-    match d {
-        Due::Flush => true,
-        Due::StandbyImmediate => false,
-        Due::ReadVerify => false,
-        Due::EpcGoTo(_) => false,
-    }
+    matches!(d, Due::Flush)
 }
 
 // The count of flushes answered stays at 255.
 pub fn one_more(n: u8) -> u8
     ensures { result ≡ one_more n }
 {
-    if n < 255 { n + 1 } else { n }
+    n.saturating_add(1)
 }
 
 pub fn flushes_of(stage: Stage) -> u8
@@ -137,12 +130,9 @@ pub fn flushes_of(stage: Stage) -> u8
 pub fn flush_counted(q: Request) -> Request
     ensures { result ≡ flush_counted q }
 {
-    let target = q.target;
-    let stage = q.stage;
     Request {
-        target,
-        immed: q.immed,
-        stage: Stage::Flushing(one_more(flushes_of(stage))),
+        stage: Stage::Flushing(one_more(flushes_of(q.stage))),
+        ..q
     }
 }
 
@@ -186,10 +176,7 @@ pub fn accepted_as(immediate: bool) -> Acceptance
 pub fn is_good(reply: Reply) -> bool
     ensures { result ≡ is_good reply }
 {
-    match reply {
-        Reply::Good => true,
-        Reply::Bad => false,
-    }
+    reply == Reply::Good
 }
 
 // What a failed operation says, by what it was to do: a spindle that does not turn is not ready.
@@ -207,8 +194,7 @@ pub fn failure_of(t: Target) -> Failure
 fn parked_in(records: [Record; 5]) -> Condition
     ensures { result ≡ parked_in records }
 {
-    let r = records[3];
-    if r.current.enabled {
+    if records[3].current.enabled {
         Condition::StandbyY
     } else {
         Condition::StandbyZ
@@ -228,9 +214,5 @@ pub fn reach(records: [Record; 5], t: Target) -> Power
 pub fn is_stop(t: Target) -> bool
     ensures { result ≡ is_stop t }
 {
-    match t {
-        Target::Stop => true,
-        Target::Start => false,
-        Target::GoTo(_) => false,
-    }
+    matches!(t, Target::Stop)
 }

@@ -124,16 +124,7 @@ fn slot_ok(records: [Record; 5], s: Slot) -> bool
 fn hosts_ok(records: [Record; 5], slots: [HostSlot; 4], held: [HostHeld; 4]) -> bool
     ensures { result ≡ hosts_well_formed records slots held }
 {
-    let mut ok = true;
-    let mut i = 0;
-    while i < 4 {
-        let h = slots[i];
-        let s = h.slot;
-        let good = slot_ok(records, s);
-        ok = ok & good;
-        i += 1;
-    }
-    ok
+    slots.iter().all(|s| slot_ok(records, s.slot))
 }
 
 // A command out is the one due from a waiting operation.
