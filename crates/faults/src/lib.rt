@@ -102,7 +102,7 @@ pub fn record_of(page: &[u8; 512], place: usize) -> Record
 
 // ---- the list
 
-// No fault yet. It also stands beside a refusal, where it says nothing of the page.
+// No fault yet: every place is blank.
 #[tactic(auto, unfolding(crate::specs::Listing::first_with_blanks))]
 pub fn no_faults() -> Faults
     ensures { result ≡ listing [] }
