@@ -1,5 +1,6 @@
 -- The faults at a word, by where it stands: what can be wrong there, and nothing else.
 use Rattle.std.proofs.Common.{◌≡◌, ℕ, zero, suc, ◌+◌, ◌-◌, ◌*◌, ◌%◌, ◌<◌, ◌≤◌, Bool, true, false, not, ◌&&◌, ◌||◌, eqb, ltb, leb, List, [], ◌++◌, sym, refl, ap, ◌∙◌, append_assoc, append-nil, arith, ltb-true, eqb-true, le-leb}
+use Rattle.std.proofs.Math.Bool.{or-false, or-true}
 use borrow.Author.Tests.{lt-leb}
 use Rattle.bits.specs.Bits.{some_one}
 use Rattle.rows.proofs.Places.{and_left, and_right}
@@ -85,10 +86,6 @@ at_spot page place k w h m e =
 
 -- ---- the named words of a condition
 
-or_false : (b : Bool) → (b || false) ≡ b
-or_false true = refl
-or_false false = refl
-
 -- One that may be wrong, and then the others.
 if_first : (b : Bool) (kind : FaultKind) (w : ℕ) (l : List Fault) → added_if b kind w l ≡ added_if b kind w [] ++ l
 if_first true kind w l = refl
@@ -99,7 +96,7 @@ head_spot : (page : List ℕ) (place : ℕ) → spot_faults page place 1 ≡ hea
 head_spot page place =
     let w = 16 * place + 1 in
     let last = added_if (is_set_unsupported (record_from page (16 * place))) SetUnsupported w [] in
-    ap (λ (b : Bool). added_if b ReservedBits w last) (or_false (some_one 12 0 (page_word page w)))
+    ap (λ (b : Bool). added_if b ReservedBits w last) (or-false (some_one 12 0 (page_word page w)))
     ∙ if_first (some_one 12 0 (page_word page w)) ReservedBits w last
 
 -- At a setting's,
@@ -144,13 +141,9 @@ named_eight page place h =
 
 -- ---- reserved words
 
-or_true : (b : Bool) → (b || true) ≡ true
-or_true true = refl
-or_true false = refl
-
 -- Within the conditions, +8 to +15.
 other_reserved : (place w : ℕ) → 16 * place + 8 ≤ w → w < 16 * place + 16 → is_reserved_word w ≡ true
-other_reserved place w h m = rw (le-leb 8 (w % 16) (omega arith)) (or_true (leb 0x50 w))
+other_reserved place w h m = rw (le-leb 8 (w % 16) (omega arith)) (or-true (leb 0x50 w))
 
 not_named : (w k : ℕ) → k < 8 → is_reserved_word w ≡ true → is_at k w ≡ false
 not_named w k h e = on (is_at k w) refl
