@@ -1,5 +1,5 @@
 -- The format page, "Set-up": the lines `slot`, `held` and `out` of a block. Assumes nothing.
-use Rattle.std.specs.Prelude.{Bool, cond, not, ◌&&◌, List, [], ◌∷◌, ℕ, ◌-◌, eqb, ltb}
+use Rattle.std.specs.Prelude.{Bool, cond, not, ◌&&◌, List, [], ◌∷◌, ℕ, ◌-◌, eqb, ltb, Some, None}
 use Rattle.asked.specs.declared.Line.{Line}
 use Rattle.asked.specs.declared.Line.TheVariants.{Sets}
 use Rattle.asked.specs.declared.Part.TheVariants.{HasSlot, HasHeld, HasOut}
@@ -8,8 +8,6 @@ use Rattle.senses.specs.declared.Sense.{Sense}
 use Rattle.requests.specs.Requests.{failure_sense}
 use Rattle.requests.specs.declared.Failure.{Failure}
 use Rattle.requests.specs.declared.Failure.TheVariants.{CommandSequence, NotReady}
-use Rattle.unit.specs.declared.Held.TheVariants.{Nothing, Holds}
-use Rattle.unit.specs.declared.Out.TheVariants.{NoneOut, OutFor}
 use Rattle.unit.specs.declared.Slot.TheVariants.{Empty, Waiting}
 use Rattle.requests.specs.declared.Stage.{Stage}
 use Rattle.requests.specs.declared.Stage.TheVariants.{Straight, Flushing}
@@ -84,9 +82,9 @@ failure_in line = cond (spells (failure_sense NotReady) line) NotReady CommandSe
 unfoldable pub held_line : List ℕ → Line
 held_line line =
     cond (is_none 2 line)
-    (offered (has_words 3 line && (own_host_in line).good) (Sets (HasHeld (own_host_in line).value Nothing)))
+    (offered (has_words 3 line && (own_host_in line).good) (Sets (HasHeld (own_host_in line).value None)))
     (offered (has_words 5 line && (own_host_in line).good && spells (failure_sense (failure_in line)) line)
-    (Sets (HasHeld (own_host_in line).value (Holds (failure_in line)))))
+    (Sets (HasHeld (own_host_in line).value (Some (failure_in line)))))
 
 -- ---- out -, out H
 
@@ -94,5 +92,5 @@ held_line line =
 unfoldable pub out_line : List ℕ → Line
 out_line line =
     cond (is_none 1 line)
-    (offered (has_words 2 line) (Sets (HasOut NoneOut)))
-    (offered (has_words 2 line && (host_in 1 line).good) (Sets (HasOut (OutFor (host_in 1 line).value))))
+    (offered (has_words 2 line) (Sets (HasOut None)))
+    (offered (has_words 2 line && (host_in 1 line).good) (Sets (HasOut (Some (host_in 1 line).value))))

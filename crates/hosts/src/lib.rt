@@ -7,7 +7,7 @@ ghost use Rattle.requests.specs.Requests.{failure_sense};
 
 use asked::{Line, Part};
 use requests::{Failure, Request, Stage, Target};
-use unit::{Held, Out, Slot};
+use unit::Slot;
 
 // What some of a line's words spell, if they spell it.
 #[derive(Clone, Copy)]
@@ -121,13 +121,13 @@ pub fn held_line(line: &[u8]) -> Line
     if is_none(line, 2) {
         return asked::offered(
             (n == 3) & host.good,
-            Line::Sets(Part::HasHeld(host.value, Held::Nothing)),
+            Line::Sets(Part::HasHeld(host.value, None)),
         );
     }
     let failure = failure_in(line);
     asked::offered(
         (n == 5) & host.good & spells_failure(line, failure),
-        Line::Sets(Part::HasHeld(host.value, Held::Holds(failure))),
+        Line::Sets(Part::HasHeld(host.value, Some(failure))),
     )
 }
 
@@ -137,10 +137,10 @@ pub fn out_line(line: &[u8]) -> Line
     let n = words::word_count(line);
     let host = words::number_at(line, 1, 0xFF);
     if is_none(line, 1) {
-        return asked::offered(n == 2, Line::Sets(Part::HasOut(Out::NoneOut)));
+        return asked::offered(n == 2, Line::Sets(Part::HasOut(None)));
     }
     asked::offered(
         (n == 2) & host.good,
-        Line::Sets(Part::HasOut(Out::OutFor(host.value))),
+        Line::Sets(Part::HasOut(Some(host.value))),
     )
 }

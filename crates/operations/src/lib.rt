@@ -7,9 +7,9 @@ ghost use Rattle.operations.specs.declared.Status.TheVariants.{NoStatus};
 
 use conditions::{Cause, Condition, Power};
 use drive::Record;
-use refusals::{Refusal, SenseDue};
 use registers::Registers;
 use requests::{Failure, Reply, Request, Stage, Target};
+use senses::Sense;
 
 // The command that an operation is due to send.
 #[derive(Clone, Copy, PartialEq, Eq)]
@@ -20,19 +20,11 @@ pub enum Due {
     EpcGoTo(Condition),
 }
 
-// START STOP UNIT's answer: accepted with GOOD due at once or with the last answer, or refused.
+// START STOP UNIT accepted: GOOD is due at once, or with the last answer.
 #[derive(Clone, Copy)]
 pub enum Acceptance {
     GoodDue,
     Pending,
-    NotAccepted(Refusal),
-}
-
-// The answer to a host that asks for its next command.
-#[derive(Clone, Copy)]
-pub enum Next {
-    Send(Registers),
-    NotSent(Refusal),
 }
 
 // The status that an operation's end gives its host; with IMMED it had GOOD on acceptance.
@@ -47,7 +39,7 @@ pub enum Status {
 #[derive(Clone, Copy)]
 pub struct Report {
     pub status: Status,
-    pub sense: SenseDue,
+    pub sense: Option<Sense>,
     pub flushes: u8,
 }
 
@@ -56,7 +48,6 @@ pub struct Report {
 pub enum Progress {
     More,
     Ended(Report),
-    NotTaken(Refusal),
 }
 
 pub fn registers_of(d: Due) -> Registers
@@ -148,7 +139,7 @@ pub fn report_good(immed: bool, flushes: u8) -> Report
 {
     Report {
         status: status_at_end(immed, Status::GoodStatus),
-        sense: SenseDue::NoSense,
+        sense: None,
         flushes,
     }
 }
@@ -158,7 +149,7 @@ pub fn report_failed(immed: bool, f: Failure, flushes: u8) -> Report
 {
     Report {
         status: status_at_end(immed, Status::CheckCondition),
-        sense: SenseDue::WithSense(requests::failure_sense(f)),
+        sense: Some(requests::failure_sense(f)),
         flushes,
     }
 }

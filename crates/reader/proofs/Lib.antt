@@ -1,3 +1,2 @@
 pub mod ByVerdict
 pub mod Outcomes
-pub mod OneResult
