@@ -1,5 +1,5 @@
 -- The whole outcome of the calls on a page that another maker wrote: document 02, request (v).
-use Rattle.std.specs.Prelude.{List, [], ℕ, length, Ok, Err, Result}
+use Rattle.std.specs.Prelude.{List, ℕ, length, Ok, Err, Result}
 use Rattle.conditions.specs.declared.Condition.{Condition}
 use Rattle.pages.specs.Readings.{page_record}
 use Rattle.faults.specs.Listing.{faults_of, listing}
