@@ -7,6 +7,7 @@ use lib.ListN.{get_or}
 use Rattle.drive.specs.Drives.{made, drive_of}
 use Rattle.drive.specs.Records.{unsupported}
 use Rattle.drive.specs.declared.Record.{Record}
+use Rattle.transitions.specs.Counts.{table_of, flat_of}
 use Rattle.unit.specs.Units.{unit_of}
 use Rattle.unit.specs.declared.Unit.{Unit}
 use Rattle.blocks.specs.RoundTrip.{SetsTheSame}
@@ -21,7 +22,7 @@ with_lists : (u : Unit) (rs : List Record) (cs : List ℕ) (ss : List Slot) (hs 
 with_lists u rs cs ss hs e f g h = rw (e, f, g, h)
 
 pub round_trip : SetsTheSame
-unfolding made
+unfolding made table_of flat_of
 round_trip u w =
     with_lists u
     (values (λ i. get_or u.drive.records i unsupported) 5)

@@ -5,12 +5,12 @@ ghost use Rattle.std.specs.Prelude.{◌++◌, ◌≡◌, ◌<◌, get_or};
 ghost use Rattle.digits.specs.Sheets.{sheet, wrote_all};
 ghost use Rattle.digits.specs.Texts.{said, cut};
 ghost use Rattle.asked.specs.Records;
-ghost use Rattle.asked.specs.Records.{settings_of, state_of, entries_at, tally_of, counts_part, after_edition, parts_of};
+ghost use Rattle.asked.specs.Records.{settings_of, state_of, counts_part, after_edition, parts_of};
 ghost use Rattle.asked.specs.declared.Part.TheVariants.{HasOut};
 ghost use Rattle.spelling.specs.Spelling;
-ghost use Rattle.spelling.specs.Spelling.{edition_word, letter_word, setting_words, record_words, cause_word, power_words, state_words, target_word, stage_words, request_words, slot_words, spaced_text, held_words, out_words, entries_words, tally_words, part_text, shown};
+ghost use Rattle.spelling.specs.Spelling.{edition_word, letter_word, setting_words, record_words, cause_word, power_words, state_words, target_word, stage_words, request_words, slot_words, spaced_text, held_words, out_words, row_words, counts_words, part_text, shown};
 
-use asked::{Entries, Part, State, Tally};
+use asked::{Part, State};
 use conditions::{Cause, Condition, Power};
 use digits::Text;
 use drive::{Edition, Record, Setting};
@@ -59,35 +59,10 @@ fn hosts_of(u: Unit, k: usize) -> Part
     Part::HasOut(out)
 }
 
-// A row of the table of counts.
-fn entries_at(counts: [u32; 12], at: usize) -> Entries
-    requires { at < 11 }
-    ensures { result ≡ entries_at at counts }
-{
-    Entries {
-        timer: counts[at],
-        other: counts[at + 1],
-    }
-}
-
-fn tally_of(counts: [u32; 12]) -> Tally
-    ensures { result ≡ tally_of counts }
-{
-    Tally {
-        active: entries_at(counts, 0),
-        a: entries_at(counts, 2),
-        b: entries_at(counts, 4),
-        c: entries_at(counts, 6),
-        y: entries_at(counts, 8),
-        z: entries_at(counts, 10),
-    }
-}
-
 fn counts_of(u: Unit) -> Part
     ensures { result ≡ counts_part u }
 {
-    let counts = u.drive.counts;
-    Part::HasCounts(tally_of(counts))
+    Part::HasCounts(transitions::table_of(u.drive.counts))
 }
 
 // The parts that follow the edition, from 0.
@@ -258,21 +233,22 @@ fn spell_out(t: Text, out: Option<u32>) -> Text
     }
 }
 
-fn spell_entries(t: Text, e: Entries) -> Text
-    ensures { said result ≡ cut (said t ++ entries_words e) }
+// A row of the table of counts.
+fn spell_row(t: Text, row: [u32; 2]) -> Text
+    ensures { said result ≡ cut (said t ++ row_words row) }
 {
-    digits::put_number(digits::put_number(t, e.timer), e.other)
+    digits::put_number(digits::put_number(t, row[0]), row[1])
 }
 
-fn spell_tally(t: Text, tally: Tally) -> Text
-    ensures { said result ≡ cut (said t ++ tally_words tally) }
+fn spell_counts(t: Text, table: [[u32; 2]; 6]) -> Text
+    ensures { said result ≡ cut (said t ++ counts_words table) }
 {
-    let active = spell_entries(t, tally.active);
-    let a = spell_entries(active, tally.a);
-    let b = spell_entries(a, tally.b);
-    let c = spell_entries(b, tally.c);
-    let y = spell_entries(c, tally.y);
-    spell_entries(y, tally.z)
+    let active = spell_row(t, table[0]);
+    let a = spell_row(active, table[1]);
+    let b = spell_row(a, table[2]);
+    let c = spell_row(b, table[3]);
+    let y = spell_row(c, table[4]);
+    spell_row(y, table[5])
 }
 
 // The line that sets a part.
@@ -286,7 +262,7 @@ fn spell(p: Part) -> Text
         Part::HasSlot(host, s) => spell_slot(digits::put_number(digits::phrase(b"slot"), host), s),
         Part::HasHeld(host, h) => spell_held(digits::put_number(digits::phrase(b"held"), host), h),
         Part::HasOut(out) => spell_out(digits::phrase(b"out"), out),
-        Part::HasCounts(tally) => spell_tally(digits::phrase(b"counts"), tally),
+        Part::HasCounts(table) => spell_counts(digits::phrase(b"counts"), table),
     }
 }
 

@@ -32,4 +32,4 @@ returns-in-HasOut c = rw c.in-HasOut.is (rw (c.phrase-in-HasOut.ensures, cut_onc
 
 pub returns-in-HasCounts : goal.returns-in-HasCounts
 unfolding part_text
-returns-in-HasCounts c = rw c.in-HasCounts.is (rw (c.phrase-in-HasCounts.ensures, cut_once) at c.spell_tally.ensures)
+returns-in-HasCounts c = rw c.in-HasCounts.is (rw (c.phrase-in-HasCounts.ensures, cut_once) at c.spell_counts.ensures)
