@@ -1,2 +1,1 @@
-pub mod ByVerdict
 pub mod Outcomes

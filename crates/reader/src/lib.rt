@@ -2,9 +2,11 @@
 // and what is wrong with the page.
 #![tactic(auto)]
 
-ghost use Rattle.std.specs.Prelude.{◌≡◌, length};
+ghost use Rattle.std.specs.Prelude.{◌≡◌, Ok, Err};
+ghost use Rattle.std.specs.Result.{MatchResult};
 ghost use Rattle.conditions.specs.Conditions.{condition_at};
-ghost use Rattle.reader.specs.PageCalls.{record_outcome, faults_outcome};
+ghost use Rattle.refusals.specs.Refusals.{lowest};
+ghost use Rattle.reader.specs.PageCalls.{reader_rows, record_outcome, faults_outcome};
 
 use conditions::Condition;
 use drive::Record;
@@ -18,29 +20,30 @@ pub struct Reader<'a> {
     pub place: usize,
 }
 
-// A page of that length, as one that has it by its type.
-fn whole(page: &[u8]) -> &[u8; 512]
-    requires { length page.now ≡ 512 }
-    ensures { result.now ≡ page.now }
+// The page as one of 512 bytes by its type, or number 1.
+fn whole(bytes: &[u8]) -> Result<&[u8; 512], Refusal>
+    ensures { MatchResult result (λ page. (page.now ≡ bytes.now) × (lowest (reader_rows bytes.now) ≡ Ok tt)) (λ r. lowest (reader_rows bytes.now) ≡ Err r) }
 {
-    page.try_into().unwrap()
+    refusals::reader_verdict(bytes.len())?;
+    Ok(bytes.try_into().unwrap())
 }
 
 // The work on slice and number: the record of the condition of that place.
-fn record_in(page: &[u8], place: usize) -> Result<Record, Refusal>
-    ensures { result ≡ record_outcome page.now (condition_at place) }
+#[tactic(auto, unfolding(crate::specs::PageCalls::record_outcome))]
+fn record_in(bytes: &[u8], place: usize) -> Result<Record, Refusal>
+    ensures { result ≡ record_outcome bytes.now (condition_at place) }
 {
-    refusals::reader_verdict(page.len())?;
+    let page = whole(bytes)?;
     let at = if place < 5 { place } else { 0 };
-    Ok(faults::record_of(whole(page), at))
+    Ok(faults::record_of(page, at))
 }
 
 // And what is wrong with a page, given by its bytes.
+#[tactic(auto, unfolding(crate::specs::PageCalls::faults_outcome))]
 fn faults_in(bytes: &[u8]) -> Result<Faults, Refusal>
     ensures { result ≡ faults_outcome bytes.now }
 {
-    refusals::reader_verdict(bytes.len())?;
-    Ok(faults::faults_of(whole(bytes)))
+    Ok(faults::faults_of(whole(bytes)?))
 }
 
 // A reader of the page, at a condition's place. It looks at nothing: another length is refused when it is read.
