@@ -11,8 +11,8 @@ ghost use Rattle.asked.specs.Lengths.{buffer_length};
 use conditions::{Condition, Power};
 use drive::{Edition, Record, Tenths};
 use registers::Registers;
-use requests::Reply;
-use unit::{Held, Out, Slot};
+use requests::{Failure, Reply};
+use unit::Slot;
 
 // A call that answers that it is done, or a refusal.
 #[derive(Clone, Copy)]
@@ -57,8 +57,8 @@ pub enum Part {
     Settings(Condition, Record),
     Stands(State),
     HasSlot(u32, Slot),
-    HasHeld(u32, Held),
-    HasOut(Out),
+    HasHeld(u32, Option<Failure>),
+    HasOut(Option<u32>),
     HasCounts([[u32; 2]; 6]),
 }
 

@@ -8,9 +8,9 @@ ghost use Rattle.findings.specs.Findings.{ok_total, entry_text, entries_of, list
 
 use conditions::Condition;
 use digits::Text;
+use drive::Record;
 use faults::{Fault, Faults};
-use reader::{Checked, PageRecord};
-use refusals::Answer;
+use refusals::Refusal;
 
 // ---- faults
 
@@ -51,12 +51,12 @@ fn put_listed(f: Faults, out: &mut [u8], at: usize) -> usize
     digits::put_line(digits::empty(), out, end)
 }
 
-fn put_checked(a: Answer, f: Faults, out: &mut [u8], at: usize) -> usize
-    ensures { sheet out.new result ≡ wrote_all (sheet out.old at) (checked_pieces a f) }
+fn put_checked(checked: Result<Faults, Refusal>, out: &mut [u8], at: usize) -> usize
+    ensures { sheet out.new result ≡ wrote_all (sheet out.old at) (checked_pieces checked) }
 {
-    match a {
-        Answer::Done => put_listed(f, out, at),
-        Answer::Refused(_) => digits::put_line(phrases::called(a), out, at),
+    match checked {
+        Ok(f) => put_listed(f, out, at),
+        Err(r) => digits::put_line(phrases::called(Err(r)), out, at),
     }
 }
 
@@ -67,20 +67,17 @@ pub fn put_faults(len: u32, text: &[u8], out: &mut [u8], at: usize) -> usize
     let page = pairs::page_of(text, 2, len);
     let bytes = page.bytes;
     let n = page.len;
-    let checked = power::page_faults(&bytes[..n]);
-    let answer = checked.answer;
-    let faults = checked.faults;
-    put_checked(answer, faults, out, at)
+    put_checked(power::page_faults(&bytes[..n]), out, at)
 }
 
 // ---- record
 
-fn found(r: PageRecord) -> Text
+fn found(r: Result<Record, Refusal>) -> Text
     ensures { said result ≡ cut (found_text r) }
 {
     match r {
-        PageRecord::Found(record) => spelling::spell_record(digits::phrase(b"ok"), record),
-        PageRecord::NotRead(refusal) => phrases::called(Answer::Refused(refusal)),
+        Ok(record) => spelling::spell_record(digits::phrase(b"ok"), record),
+        Err(refusal) => phrases::called(Err(refusal)),
     }
 }
 

@@ -10,10 +10,6 @@ use Rattle.requests.specs.Requests.{failure_sense}
 use Rattle.requests.specs.declared.Failure.{Failure}
 use Rattle.requests.specs.declared.Failure.TheVariants.{CommandSequence, NotReady}
 use Rattle.requests.specs.declared.Request.{Request}
-use Rattle.unit.specs.declared.Held.{Held}
-use Rattle.unit.specs.declared.Held.TheVariants.{Nothing, Holds}
-use Rattle.unit.specs.declared.Out.{Out}
-use Rattle.unit.specs.declared.Out.TheVariants.{NoneOut, OutFor}
 use Rattle.unit.specs.declared.Slot.{Slot}
 use Rattle.unit.specs.declared.Slot.TheVariants.{Empty, Waiting}
 use Rattle.requests.specs.declared.Stage.{Stage}
@@ -84,11 +80,11 @@ failure_in line =
     cond (spells (failure_sense NotReady) line) (Some NotReady)
     (offered (spells (failure_sense CommandSequence) line) (Some CommandSequence))
 
-abbrev pub held_in : List ℕ → Option Held
+abbrev pub held_in : List ℕ → Option (Option Failure)
 held_in line =
     cond (is_none 2 line)
-    (offered (has_words 3 line) (Some Nothing))
-    (offered (has_words 5 line) (failure_in line then λ failure. Some (Holds failure)))
+    (offered (has_words 3 line) (Some None))
+    (offered (has_words 5 line) (failure_in line then λ failure. Some (Some failure)))
 
 unfoldable pub held_line : List ℕ → Option Line
 held_line line = own_host_in line then λ host. held_in line then λ held. Some (Sets (HasHeld host held))
@@ -96,9 +92,9 @@ held_line line = own_host_in line then λ host. held_in line then λ held. Some 
 -- ---- out -, out H
 
 -- "host H's command is out; any H".
-abbrev pub out_in : List ℕ → Option Out
+abbrev pub out_in : List ℕ → Option (Option ℕ)
 out_in line =
-    offered (has_words 2 line) (cond (is_none 1 line) (Some NoneOut) (host_in 1 line then λ host. Some (OutFor host)))
+    offered (has_words 2 line) (cond (is_none 1 line) (Some None) (host_in 1 line then λ host. Some (Some host)))
 
 unfoldable pub out_line : List ℕ → Option Line
 out_line line = out_in line then λ out. Some (Sets (HasOut out))

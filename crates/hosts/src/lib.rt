@@ -8,7 +8,7 @@ ghost use Rattle.requests.specs.Requests.{failure_sense};
 use asked::{Line, Part};
 use conditions::Condition;
 use requests::{Failure, Request, Stage, Target};
-use unit::{Held, Out, Slot};
+use unit::Slot;
 
 // "`start` with FLUSH 1" and "PROGRESS not 0 where FLUSH is 0" are bad lines.
 fn stage_from(target: Target, flushes: bool, answered: u8) -> Option<Stage>
@@ -97,12 +97,12 @@ fn failure_in(line: &[u8]) -> Option<Failure>
 }
 
 // The deferred sense that waits for a host.
-fn held_in(line: &[u8]) -> Option<Held>
+fn held_in(line: &[u8]) -> Option<Option<Failure>>
     ensures { result ≡ held_in line.now }
 {
     match (is_none(line, 2), words::word_count(line)) {
-        (true, 3) => Some(Held::Nothing),
-        (false, 5) => Some(Held::Holds(failure_in(line)?)),
+        (true, 3) => Some(None),
+        (false, 5) => Some(Some(failure_in(line)?)),
         _ => None,
     }
 }
@@ -116,16 +116,16 @@ pub fn held_line(line: &[u8]) -> Option<Line>
 }
 
 // The host whose command is out.
-fn out_in(line: &[u8]) -> Option<Out>
+fn out_in(line: &[u8]) -> Option<Option<u32>>
     ensures { result ≡ out_in line.now }
 {
     if words::word_count(line) != 2 {
         return None;
     }
     if is_none(line, 1) {
-        return Some(Out::NoneOut);
+        return Some(None);
     }
-    Some(Out::OutFor(words::number_at(line, 1, 0xFF)?))
+    Some(Some(words::number_at(line, 1, 0xFF)?))
 }
 
 #[tactic(auto, unfolding(crate::specs::Hosts::out_line))]

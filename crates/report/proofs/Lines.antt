@@ -1,5 +1,6 @@
 -- Lines that a function makes of a list: with k of them written, those from k on are left to write. The heading, the rows, the faults and the total, one
 -- after another, are the report of a page that is read.
+use Rattle.std.proofs.Common.{Ok, Err, Result}
 use mathlib.Core.Path.{◌≡◌, sym, ap, ◌∙◌}
 use mathlib.Core.List.{List, [], ◌∷◌, ◌++◌, map, map-append}
 use Prim.Native.Nat.{ℕ, suc, ◌<◌, ◌≤◌}
@@ -8,10 +9,9 @@ use lib.ListN.{length, get_or, drop, length-map, get_or-map}
 use Rattle.digits.specs.Sheets.{Sheet, wrote, wrote_all, line_text}
 use Rattle.digits.proofs.Sheets.{wrote_more, wrote_all_lem, wrote_then}
 use Rattle.reader.specs.PageCalls.{faults_outcome}
-use Rattle.reader.specs.declared.Checked.{Checked}
-use Rattle.refusals.specs.declared.Answer.TheVariants.{Done, Refused}
 use Rattle.refusals.specs.declared.Refusal.{Refusal}
 use Rattle.report.specs.Report.{not_read_text, texts_by, report_texts, report_lines}
+use Rattle.faults.specs.declared.Faults.{Faults}
 
 module _ {A : Type 0} (f : A → List ℕ) (l : List A) where
   abbrev pub lines : List (List ℕ)
@@ -38,12 +38,7 @@ pub all_written : {headed rowed listed end : Sheet} (s : Sheet) (head : List ℕ
 unfolding wrote_all
 all_written s head rows faults total e f g h = h ∙ rw (g, f, e) (simp (map-append, wrote_then))
 
-pub of_read : (page : List ℕ) (checked : Checked) → checked ≡ faults_outcome page → checked.answer ≡ Done
-    → map line_text (texts_by page checked.faults Done) ≡ report_lines page
+pub of_checked : (page : List ℕ) (checked found : Result Faults Refusal) → checked ≡ faults_outcome page → checked ≡ found
+    → map line_text (texts_by page found) ≡ report_lines page
 unfolding report_lines report_texts
-of_read page checked e done = rw (← e, done)
-
-pub of_refused : (page : List ℕ) (checked : Checked) (r : Refusal) → checked ≡ faults_outcome page → checked.answer ≡ Refused r
-    → line_text (not_read_text r) ∷ [] ≡ report_lines page
-unfolding report_lines report_texts
-of_refused page checked r e refused = rw (← e, refused)
+of_checked page checked found e is = rw (← e, is)

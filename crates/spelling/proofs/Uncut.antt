@@ -1,4 +1,5 @@
 -- No line of a block is cut: each piece of it has a bound, whatever its number, and the bounds of a line's pieces add up to less than a text's room.
+use Rattle.std.proofs.Common.{Some, None, Option}
 use mathlib.Core.Path.{◌≡◌}
 use mathlib.Core.Bool.{Bool, true, false}
 use mathlib.Core.List.{List, [], ◌∷◌, ◌++◌, map}
@@ -13,10 +14,6 @@ use Rattle.drive.specs.declared.Edition.{Edition}
 use Rattle.drive.specs.declared.Edition.TheVariants.{Draft, Published}
 use Rattle.drive.specs.declared.Record.{Record}
 use Rattle.drive.specs.declared.Setting.{Setting}
-use Rattle.unit.specs.declared.Held.{Held}
-use Rattle.unit.specs.declared.Held.TheVariants.{Nothing, Holds}
-use Rattle.unit.specs.declared.Out.{Out}
-use Rattle.unit.specs.declared.Out.TheVariants.{NoneOut, OutFor}
 use Rattle.unit.specs.declared.Slot.{Slot}
 use Rattle.unit.specs.declared.Slot.TheVariants.{Empty, Waiting}
 use Rattle.requests.specs.declared.Stage.{Stage}
@@ -74,14 +71,14 @@ slot : (s : Slot) → Within (slot_words s) 19
 slot Empty = looser (omega arith) (whole (codes " -"))
 slot (Waiting q) = target q.target then flag q.immed then stage q.stage
 
-held : (h : Held) → Within (held_words h) 9
+held : (h : Option Failure) → Within (held_words h) 9
 unfolding pairs
-held Nothing = looser (omega arith) (whole (codes " -"))
-held (Holds f) = whole (held_words (Holds f))
+held None = looser (omega arith) (whole (codes " -"))
+held (Some f) = whole (held_words (Some f))
 
-out : (o : Out) → Within (out_words o) 9
-out NoneOut = looser (omega arith) (whole (codes " -"))
-out (OutFor host) = number host
+out : (o : Option ℕ) → Within (out_words o) 9
+out None = looser (omega arith) (whole (codes " -"))
+out (Some host) = number host
 
 row : (r : List ℕ) → Within (row_words r) 18
 row r = number (get_or r 0 0) then number (get_or r 1 0)

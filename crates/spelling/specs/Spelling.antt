@@ -13,10 +13,6 @@ use Rattle.drive.specs.declared.Record.{Record}
 use Rattle.drive.specs.declared.Setting.{Setting}
 use Rattle.senses.specs.declared.Sense.{Sense}
 use Rattle.requests.specs.Requests.{failure_sense}
-use Rattle.unit.specs.declared.Held.{Held}
-use Rattle.unit.specs.declared.Held.TheVariants.{Nothing, Holds}
-use Rattle.unit.specs.declared.Out.{Out}
-use Rattle.unit.specs.declared.Out.TheVariants.{NoneOut, OutFor}
 use Rattle.requests.specs.declared.Request.{Request}
 use Rattle.unit.specs.declared.Slot.{Slot}
 use Rattle.unit.specs.declared.Slot.TheVariants.{Empty, Waiting}
@@ -32,6 +28,7 @@ use Rattle.asked.specs.declared.State.{State}
 use Rattle.asked.specs.Records.{parts_of}
 use Rattle.digits.specs.Sheets.{line_text}
 use Rattle.digits.specs.Pieces.{sense_text, flag_word, number_word}
+use Rattle.requests.specs.declared.Failure.{Failure}
 
 -- "single spaces, no space at a line's end": each word but the first has its space before it.
 abbrev pub letter_of : Condition → ℕ
@@ -93,14 +90,14 @@ slot_words (Waiting q) = request_words q
 abbrev pub spaced_text : Sense → List ℕ
 spaced_text s = sense_text (code " ") (code " ") s.key s.asc s.ascq
 
-abbrev pub held_words : Held → List ℕ
-held_words Nothing = codes " -"
-held_words (Holds f) = spaced_text (failure_sense f)
+abbrev pub held_words : Option Failure → List ℕ
+held_words None = codes " -"
+held_words (Some f) = spaced_text (failure_sense f)
 
 -- out -, out H
-abbrev pub out_words : Out → List ℕ
-out_words NoneOut = codes " -"
-out_words (OutFor host) = number_word host
+abbrev pub out_words : Option ℕ → List ℕ
+out_words None = codes " -"
+out_words (Some host) = number_word host
 
 -- counts and twelve numbers, "rows in power order, each timer then other"
 abbrev pub row_words : List ℕ → List ℕ

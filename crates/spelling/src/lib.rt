@@ -14,9 +14,9 @@ use asked::{Part, State};
 use conditions::{Cause, Condition, Power};
 use digits::Text;
 use drive::{Edition, Record, Setting};
-use requests::{Request, Stage, Target};
+use requests::{Failure, Request, Stage, Target};
 use senses::Sense;
-use unit::{Held, Out, Slot, Unit};
+use unit::{Slot, Unit};
 
 // ---- the parts of a record
 
@@ -215,21 +215,21 @@ fn spell_sense(t: Text, s: Sense) -> Text
     digits::put_sense(t, s.key, s.asc, s.ascq, b' ', b' ')
 }
 
-fn spell_held(t: Text, h: Held) -> Text
+fn spell_held(t: Text, h: Option<Failure>) -> Text
     ensures { said result ≡ cut (said t ++ held_words h) }
 {
     match h {
-        Held::Nothing => digits::put_all(t, b" -"),
-        Held::Holds(f) => spell_sense(t, requests::failure_sense(f)),
+        None => digits::put_all(t, b" -"),
+        Some(f) => spell_sense(t, requests::failure_sense(f)),
     }
 }
 
-fn spell_out(t: Text, out: Out) -> Text
+fn spell_out(t: Text, out: Option<u32>) -> Text
     ensures { said result ≡ cut (said t ++ out_words out) }
 {
     match out {
-        Out::NoneOut => digits::put_all(t, b" -"),
-        Out::OutFor(host) => digits::put_number(t, host),
+        None => digits::put_all(t, b" -"),
+        Some(host) => digits::put_number(t, host),
     }
 }
 

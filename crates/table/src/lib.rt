@@ -16,9 +16,9 @@ ghost use Rattle.table.specs.Table.{below_at, texts, table_lines};
 use conditions::Condition;
 use digits::Text;
 use drive::{Drive, Edition, Record, Setting, Tenths};
-use requests::{Request, Stage, Target};
+use requests::{Failure, Request, Stage, Target};
 use senses::Sense;
-use unit::{Held, Out, Slot, Unit};
+use unit::{Slot, Unit};
 
 // ---- a condition's row
 
@@ -175,12 +175,12 @@ fn idle_line(u: Unit) -> Text
     )
 }
 
-fn out_line(out: Out) -> Text
+fn out_line(out: Option<u32>) -> Text
     ensures { said result ≡ cut (out_text out) }
 {
     match out {
-        Out::NoneOut => digits::phrase(b"command out  none"),
-        Out::OutFor(host) => digits::put_decimal(digits::phrase(b"command out  host "), host),
+        None => digits::phrase(b"command out  none"),
+        Some(host) => digits::put_decimal(digits::phrase(b"command out  host "), host),
     }
 }
 
@@ -249,12 +249,12 @@ fn put_sense_held(t: Text, s: Sense) -> Text
     )
 }
 
-fn put_held(t: Text, h: Held) -> Text
+fn put_held(t: Text, h: Option<Failure>) -> Text
     ensures { said result ≡ cut (said t ++ held_text h) }
 {
     match h {
-        Held::Nothing => t,
-        Held::Holds(f) => put_sense_held(t, requests::failure_sense(f)),
+        None => t,
+        Some(f) => put_sense_held(t, requests::failure_sense(f)),
     }
 }
 

@@ -2,5 +2,5 @@
 use Rattle.digits.proofs.Digits.{cut_once}
 use Rattle.findings.proofs.found.Goals as goal
 
-pub returns-in-Found : goal.returns-in-Found
-returns-in-Found c = rw (c.spell_record.ensures, c.phrase.ensures, cut_once, c.in-Found.is)
+pub returns-in-Ok : goal.returns-in-Ok
+returns-in-Ok c = rw (c.spell_record.ensures, c.phrase.ensures, cut_once, c.in-Ok.is)

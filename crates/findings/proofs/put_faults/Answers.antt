@@ -4,4 +4,4 @@ use Rattle.findings.proofs.put_faults.Goals as goal
 
 pub returns : goal.returns
 unfolding faults_pieces
-returns c = rw (c.put_checked.ensures, c.page_faults-checked.ensures, c.page_of-page.ensures.0)
+returns c = rw (c.put_checked.ensures, c.page_faults.ensures, c.page_of-page.ensures.0)

@@ -2,5 +2,5 @@
 use Rattle.digits.proofs.Digits.{cut_once}
 use Rattle.phrases.proofs.before_bytes.Goals as goal
 
-pub returns-in-Refused : goal.returns-in-Refused
-returns-in-Refused c = rw (c.put_all.ensures, c.refused.ensures, cut_once, c.in-Refused.is)
+pub returns-in-Err : goal.returns-in-Err
+returns-in-Err c = rw (c.put_all.ensures, c.refused.ensures, cut_once, c.in-Err.is)
