@@ -6,7 +6,6 @@ use mathlib.Core.Bool.{Bool, true, false}
 use mathlib.Core.List.{List, [], ◌∷◌, map}
 use Prim.Native.Nat.{ℕ}
 use lib.ListN.{replicate}
-use Rattle.std.specs.Prelude.{Some, None}
 use Rattle.drive.specs.Records.{unsupported}
 use Rattle.conditions.specs.declared.Cause.TheVariants.{Timer, Command}
 use Rattle.conditions.specs.declared.Condition.TheVariants.{IdleA, IdleB, StandbyY, StandbyZ}
