@@ -165,7 +165,7 @@ pub fn enter(d: Drive, p: Power) -> Drive
     }
 }
 
-// Stored to, here and below: of a literal the compiler moves the records once more, some 10 to 100 instructions a call.
+// Stored to, here and below: of a literal the compiler moves the records once more, 8 to 130 instructions a call.
 pub fn with_idle(d: Drive, n: Tenths) -> Drive
     ensures { result ≡ with_idle n.0 d }
 {
