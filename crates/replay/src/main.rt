@@ -17,14 +17,12 @@ fn print(writer: &impl Print, out: &[u8; 16384], n: usize) -> bool
     writer.write_all(&all[..n]).is_ok()
 }
 
-// Reads once, if that is asked. It answers as C's `read` does: how many bytes came, or -1.
-fn read_if(asked: bool, reader: &mut impl Read, input: &mut [u8; 65536]) -> isize {
-    if !asked {
-        return 0;
-    }
-    match reader.read(input) {
-        Ok(n) => n as isize,
-        Err(_) => -1,
+// Reads once, if that is asked: how many bytes came, or none where it failed.
+fn read_if(asked: bool, reader: &mut impl Read, input: &mut [u8; 65536]) -> Option<usize> {
+    if asked {
+        reader.read(input).ok()
+    } else {
+        Some(0)
     }
 }
 

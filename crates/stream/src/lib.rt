@@ -111,7 +111,7 @@ fn finish(r: Run, line: &[u8], out: &mut [u8]) -> usize
 pub fn go_on(
     t: Turn,
     written: bool,
-    got: isize,
+    got: Option<usize>,
     input: &[u8; 65536],
     line: &mut [u8; 4001],
     out: &mut [u8; 16384],
