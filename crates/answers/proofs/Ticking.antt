@@ -1,39 +1,38 @@
 -- Ticks one after another: while one is left and the last was done, the next is made; with none left, or after a refusal, they end.
-use Rattle.std.proofs.Common.{Ok, Err}
-use mathlib.Core.Path.{◌≡◌, refl}
-use mathlib.Core.Bool.{Bool, true, false, ◌&&◌}
-use Prim.Native.Nat.{ℕ, zero, suc, ◌-◌, ◌<◌}
-use native.Mathlib.Numerals.{sub-one}
-use native.Mathlib.Omega.{arith}
-use borrow.Author.Tests.{lt-ltb}
-use lib.Dec.{ltb}
+use Prim.Native.Nat.{zero}
+use Rattle.std.proofs.Common.{◌≡◌, ℕ, suc, ◌+◌, ◌-◌, ◌<◌, ◌≤◌, Bool, true, false, refl, ap, ◌∙◌, arith, Ok, Err}
+use Rattle.std.specs.Result.{is_err}
 use Rattle.engine.specs.Engine.{tick_outcome}
-use Rattle.unit.specs.declared.Unit.{Unit}
-use Rattle.answers.specs.Answers.{is_done, ticks_after}
 use Rattle.refusals.specs.Refusals.{Verdict}
+use Rattle.unit.specs.declared.Unit.{Unit}
+use Rattle.outcomes.specs.declared.Called.{Called}
+use Rattle.answers.specs.Answers.{ticks_after}
 
--- The test of the code's loop.
-abbrev pub GoesOn : ℕ → Verdict → Type 0
-GoesOn n a = (ltb 0 n && is_done a) ≡ true
-
--- with some left the test is the last answer's
-some : (n : ℕ) (b : Bool) → (ltb 0 (suc n) && b) ≡ b
-some n b = rw (lt-ltb 0 (suc n) (omega arith))
-
-pub tick_left : (n : ℕ) (a : Verdict) → GoesOn n a → 0 < n
-tick_left zero a e = let z : ◌≡◌ {A = ℕ} 0 1 = cc in absurd (omega arith)
-tick_left (suc n) a e = omega arith
-
-pub tick_next : (n : ℕ) (a : Verdict) (u : Unit) → GoesOn n a
-    → ticks_after n (record { answer = a; unit = u }) ≡ ticks_after (n - 1) (tick_outcome u)
+-- One more of those that are left.
+one_more : (n : ℕ) (c : Called) → c.answer ≡ Ok tt → ticks_after (suc n) c ≡ ticks_after n (tick_outcome c.unit)
 unfolding ticks_after
-tick_next zero a u e = let z : ◌≡◌ {A = ℕ} 0 1 = cc in absurd (omega arith)
-tick_next (suc n) (Ok _) u e = rw sub-one
-tick_next (suc n) (Err r) u e = let z : ◌≡◌ {A = ℕ} 0 1 = cc (some n false) in absurd (omega arith)
+one_more n c e = rw e
 
-pub ticks_end : (n : ℕ) (a : Verdict) (u : Unit) → (ltb 0 n && is_done a) ≡ false
-    → ticks_after n (record { answer = a; unit = u }) ≡ record { answer = a; unit = u }
+pub tick_made : (n k : ℕ) (c t : Called) → k < n → c.answer ≡ Ok tt → t ≡ tick_outcome c.unit
+    → ticks_after (n - k) c ≡ ticks_after (n - (k + 1)) t
+tick_made n k c t below done made =
+    let left : n - k ≡ suc (n - (k + 1)) = omega arith in
+    rw (left, made) (one_more (n - (k + 1)) c done)
+
+pub all_made : (n k : ℕ) (c : Called) → n ≤ k → ticks_after (n - k) c ≡ c
 unfolding ticks_after
-ticks_end zero a u e = refl
-ticks_end (suc n) (Ok _) u e = let z : ◌≡◌ {A = ℕ} 0 1 = cc (some n true) in absurd (omega arith)
-ticks_end (suc n) (Err r) u e = refl
+all_made n k c past = let none : n - k ≡ 0 = omega arith in rw none
+
+-- With a refusal no more are made.
+pub ticks_end : (n : ℕ) (c : Called) → is_err c.answer ≡ true → ticks_after n c ≡ c
+unfolding ticks_after
+ticks_end zero c e = refl
+ticks_end (suc n) c e = on c.answer refl e
+  where
+    on : (a : Verdict) → c.answer ≡ a → is_err a ≡ true → ticks_after (suc n) c ≡ c
+    on (Ok _) is e = let no : ◌≡◌ {A = ℕ} 0 1 = cc in absurd (omega arith)
+    on (Err r) is e = rw is
+
+pub not_refused : (a : Verdict) → is_err a ≡ false → a ≡ Ok tt
+not_refused (Ok _) e = refl
+not_refused (Err r) e = let no : ◌≡◌ {A = ℕ} 0 1 = cc in absurd (omega arith)

@@ -47,26 +47,21 @@ pub enum Page {
     Descriptors(u32),
 }
 
-fn is_done(a: Result<(), Refusal>) -> bool
-    ensures { result ≡ Answers.is_done a }
-{
-    a.is_ok()
-}
-
 // N single ticks; stops at the first refusal.
 fn ticks(u: Unit, n: u32) -> Called
     ensures { result ≡ Answers.ticks n u }
 {
-    let mut unit = u;
-    let mut answer = Ok(());
-    let mut left = n;
-    while (left > 0) & is_done(answer) {
-        let c = power::tick(unit);
-        unit = c.unit;
-        answer = c.answer;
-        left -= 1;
+    let mut called = Called {
+        answer: Ok(()),
+        unit: u,
+    };
+    for _ in 0..n {
+        called = power::tick(called.unit);
+        if called.answer.is_err() {
+            break;
+        }
     }
-    Called { answer, unit }
+    called
 }
 
 fn called_by(u: Unit, call: PlainCall) -> Called
@@ -238,9 +233,7 @@ pub fn make(u: Unit, call: CallLine, text: &[u8], out: &mut [u8], at: usize) -> 
 fn replaced_by(c: Called, u: Unit) -> Unit
     ensures { result ≡ replaced_by c u }
 {
-    let made = c.unit;
-    let answer = c.answer;
-    if is_done(answer) { made } else { u }
+    if c.answer.is_ok() { c.unit } else { u }
 }
 
 // What the maker says of a condition.

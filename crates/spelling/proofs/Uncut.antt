@@ -30,7 +30,6 @@ use Rattle.asked.specs.declared.Part.TheVariants.{IsOf, Settings, Stands, HasSlo
 use Rattle.asked.specs.Records.{parts_of}
 use Rattle.digits.specs.Pieces.{flag_word, number_word}
 use Rattle.spelling.specs.Spelling.{edition_word, letter_word, setting_words, record_words, power_words, target_word, stage_words, slot_words, held_words, out_words, row_words, counts_words, part_text, shown}
-use Rattle.requests.specs.declared.Failure.{Failure}
 
 -- ---- the pieces
 

@@ -1,28 +1,18 @@
--- The ticks that are left complete the run at every turn.
-use mathlib.Core.Path.{sym, ◌∙◌}
-use native.Mathlib.Omega.{arith}
-use Rattle.answers.proofs.Ticking.{GoesOn, tick_next, tick_left, ticks_end}
+-- The ticks that are left complete the run at every turn; a refusal ends it.
+use Rattle.std.proofs.Common.{sym, ◌∙◌}
+use Rattle.answers.proofs.Ticking.{tick_made, all_made, ticks_end, not_refused}
 use Rattle.answers.proofs.ticks.Goals as goal
 
-pub overflow_sub-left : goal.overflow_sub-left
-overflow_sub-left c =
-    let l = c.loop-left in
-    let goes : GoesOn l.left l.answer = rw c.is_done.ensures at c.loop-left-test.true in
-    tick_left l.left l.answer goes
+pub loop-preserved : goal.loop-preserved
+loop-preserved c =
+    let made = tick_made c.args.n c.loop.counter c.loop.called c.tick-called.result c.loop-test.true c.loop.invariant.1 c.tick-called.ensures in
+    (sym made ∙ c.loop.invariant.0, not_refused _ (sym c.is_err.ensures.value ∙ c.if-is_err.false))
 
-pub loop-left-smaller : goal.loop-left-smaller
-loop-left-smaller c =
-    let l = c.loop-left in
-    let goes : GoesOn l.left l.answer = rw c.is_done.ensures at c.loop-left-test.true in
-    omega (arith, tick_left l.left l.answer goes)
+pub returns-after-loop : goal.returns-after-loop
+returns-after-loop c = sym (all_made c.args.n c.loop.counter c.loop.called c.loop-test.false) ∙ c.loop.invariant.0
 
-pub loop-left-preserved : goal.loop-left-preserved
-loop-left-preserved c =
-    let l = c.loop-left in
-    let goes : GoesOn l.left l.answer = rw c.is_done.ensures at c.loop-left-test.true in
-    rw c.tick-c.ensures (sym (tick_next l.left l.answer l.unit goes) ∙ l.invariant)
-
-pub returns : goal.returns
-returns c =
-    let l = c.loop-left in
-    sym (ticks_end l.left l.answer l.unit (rw c.is_done.ensures at c.loop-left-test.false)) ∙ l.invariant
+pub returns-then-is_err : goal.returns-then-is_err
+returns-then-is_err c =
+    let t = c.tick-called.result in
+    let made = tick_made c.args.n c.loop.counter c.loop.called t c.loop-test.true c.loop.invariant.1 c.tick-called.ensures in
+    sym (ticks_end _ t (sym c.is_err.ensures.value ∙ c.if-is_err.true)) ∙ sym made ∙ c.loop.invariant.0

@@ -1,11 +1,8 @@
--- The ticks that are left complete the run at every turn.
-use mathlib.Core.Path.{◌≡◌}
+-- The ticks that are left complete the run at every turn, and every tick so far was done.
+use Rattle.std.proofs.Common.{◌≡◌, ◌-◌, Ok}
 use Rattle.answers.specs.Answers
 use Rattle.answers.specs.Answers.{ticks_after}
 use Rattle.answers.proofs.ticks.Given as goal
 
-abbrev pub invariant-loop-left : goal.invariant-loop-left
-invariant-loop-left l = ticks_after l.left (record { answer = l.answer; unit = l.unit }) ≡ Answers.ticks l.n l.fn.u
-
-abbrev pub decreases-loop-left : goal.decreases-loop-left
-decreases-loop-left l = l.left
+abbrev pub invariant-loop : goal.invariant-loop
+invariant-loop l = (ticks_after (l.fn.n - l.counter) l.called ≡ Answers.ticks l.fn.n l.fn.u) × (l.called.answer ≡ Ok tt)
