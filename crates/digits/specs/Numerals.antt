@@ -37,10 +37,13 @@ abbrev pub bytes_text : List ℕ → List ℕ
 bytes_text [] = code "-" ∷ []
 bytes_text (b ∷ bs) = pairs (b ∷ bs)
 
+abbrev pub blanks : ℕ → List ℕ
+blanks n = replicate n (code " ")
+
 -- A text at the right end of a column.
 abbrev pub right_in : ℕ → List ℕ → List ℕ
-right_in width bs = replicate (width - length bs) (code " ") ++ bs
+right_in width bs = blanks (width - length bs) ++ bs
 
 -- A text with blanks behind it up to a column.
 abbrev pub padded : ℕ → List ℕ → List ℕ
-padded width bs = bs ++ replicate (width - length bs) (code " ")
+padded width bs = bs ++ blanks (width - length bs)

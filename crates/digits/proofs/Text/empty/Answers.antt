@@ -1,7 +1,7 @@
--- The first none of its bytes.
+-- It says none of its bytes.
 use mathlib.Core.Path.{refl}
 use Rattle.digits.specs.Texts.{said}
-use Rattle.digits.proofs.empty.Goals as goal
+use Rattle.digits.proofs.Text.empty.Goals as goal
 
 pub returns : goal.returns
 unfolding said
