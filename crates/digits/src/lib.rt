@@ -42,10 +42,8 @@ impl Text {
     pub fn empty() -> Text
         ensures { said result ≡ [] }
     {
-        Text {
-            bytes: [0u8; 128],
-            len: 0,
-        }
+        let bytes = [0u8; 128];
+        Text { bytes, len: 0 }
     }
 
     // A text that says these bytes.
@@ -88,6 +86,7 @@ impl Text {
     }
 
     // Puts the numeral of n, of at most k digits.
+    // Stays a recursion of its own: `write!` promises what it wrote only where it answers Ok, and no clause of std says that it does; this cannot fail.
     fn put_numeral(self, base: u32, k: u32, n: u32) -> Text
         requires lt_base { 1 < base }
         requires base_bound { base ≤ 16 }
@@ -137,7 +136,8 @@ impl Text {
         ensures { said result ≡ cut (said self ++ right_in width (said piece)) }
     {
         let bytes = piece.as_bytes();
-        self.put_blanks(width.saturating_sub(bytes.len())).put_all(bytes)
+        self.put_blanks(width.saturating_sub(bytes.len()))
+            .put_all(bytes)
     }
 
     // Puts blanks up to a column.

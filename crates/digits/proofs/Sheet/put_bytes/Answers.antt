@@ -27,7 +27,7 @@ loop-b-preserved g c = let s = c.args.self.now in
     let next = get_or bytes i 0 in
     let more = take-suc bytes i 0 (omega arith) in
     let fits : s.len + length (pairs (take i bytes) ++ pairs (next ∷ [])) ≤ length s.bytes =
-        rw (← pairs-append (take i bytes) (next ∷ []), ← more, pairs_length, length-take) (omega arith) in
+    rw (← pairs-append (take i bytes) (next ∷ []), ← more, pairs_length, length-take) (omega arith) in
     rw (c.put-in-loop-b.ensures, c.loop-b.invariant, c.pair.ensures, add-one, more, pairs-append) (wrote_both s (pairs (take i bytes)) (pairs (next ∷ [])) fits)
 
 pub returns-else-has_room : goal.returns-else-has_room
