@@ -65,6 +65,9 @@ pub cut_blanks : (a : List ℕ) (n : ℕ) → cut (a ++ blanks (min n 128)) ≡ 
 unfolding cut
 cut_blanks a n = rw (← take_blanks n 128) (take_back 128 128 a (blanks n) (omega arith))
 
+-- by these a text that is put piece by piece says its pieces one after another
+pub ruleset one_by_one = (cut_more, cut_once, append_assoc)
+
 -- what has room is not cut
 pub cut_short : (bs : List ℕ) → length bs ≤ 128 → cut bs ≡ bs
 unfolding cut

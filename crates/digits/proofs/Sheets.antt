@@ -1,12 +1,14 @@
 -- Lines are written one after another: with k of them written, those from k on are left to write. Where all have room, they stand there joined.
 use mathlib.Core.Path.{◌≡◌, refl, sym, ap, ◌∙◌}
 use mathlib.Core.List.{List, [], ◌∷◌, ◌++◌, append-nil, append_assoc}
-use Prim.Native.Nat.{ℕ, suc, ◌+◌, ◌<◌, ◌≤◌}
+use Prim.Native.Nat.{ℕ, zero, suc, ◌+◌, ◌<◌, ◌≤◌}
 use native.Mathlib.Nat.{add-zero}
+use native.Mathlib.Numerals.{add-one}
 use native.Mathlib.Omega.{arith}
 use lib.ListN.{length, get_or, take, drop, drop_of_length-le, length-append}
 use lib.Seq.{paste, drop-cons, length-paste, take-paste, take-length}
 use Rattle.std.proofs.lemmas.List.Edits.{paste_none, paste-paste}
+use Rattle.rows.proofs.Values.{values}
 use Rattle.digits.specs.declared.Sheet.{Sheet}
 use Rattle.digits.specs.Sheets.{wrote, wrote_all, joined, line_text}
 use Rattle.digits.specs.Texts.{cut}
@@ -15,6 +17,10 @@ use Rattle.digits.proofs.Digits.{cut_once, goes_in, stays_out}
 -- A line that is cut before its LF is put is the line cut once.
 pub line_once : (bs : List ℕ) → line_text (cut bs) ≡ line_text bs
 line_once bs = cut_once bs _
+
+-- what a line says may have been cut
+pub line_of : {N : ℕ} (s : Sheet N) {t : Sheet N} {x : List ℕ} (bs : List ℕ) → t ≡ wrote s (line_text x) → x ≡ cut bs → t ≡ wrote s (line_text bs)
+line_of s bs e f = e ∙ rw (f, line_once)
 
 pub wrote_more : {N : ℕ} (ls : List (List ℕ)) (k : ℕ) (z : List ℕ) (s : Sheet N) → k < length ls
     → wrote_all s (drop k ls) ≡ wrote_all (wrote s (get_or ls k z)) (drop (suc k) ls)
@@ -31,6 +37,15 @@ pub wrote_then : {N : ℕ} (s : Sheet N) (ls more : List (List ℕ)) → wrote_a
 unfolding wrote_all
 wrote_then s [] more = refl
 wrote_then s (bs ∷ ls) more = wrote_then (wrote s bs) ls more
+
+-- one more of the lines that a function has at 0, 1, 2 ..
+pub wrote_next : {N : ℕ} (s : Sheet N) (f : ℕ → List ℕ) (k : ℕ) → wrote (wrote_all s (values f k)) (f k) ≡ wrote_all s (values f (k + 1))
+unfolding wrote_all
+wrote_next s f k = rw add-one (next s f k)
+  where
+    next : {N : ℕ} (s : Sheet N) (f : ℕ → List ℕ) (k : ℕ) → wrote (wrote_all s (values f k)) (f k) ≡ wrote_all s (values f (suc k))
+    next s f zero = refl
+    next s f (suc k) = next (wrote s (f 0)) (λ i. f (suc i)) k
 
 -- ---- pieces that all have room
 

@@ -1,5 +1,5 @@
 // A line of text that is being written, with numbers and bytes as digits, and the sheet that lines are written on.
-#![tactic(auto)]
+#![tactic(auto, using(crate::proofs::Digits::one_by_one))]
 
 ghost use Rattle.std.specs.Prelude.{cond, [], ◌∷◌, ◌++◌, ◌≡◌, ◌+◌, ◌≤◌, ◌<◌, leb, length, take};
 ghost use Rattle.digits.specs.Numerals;
