@@ -3,7 +3,6 @@
 use mathlib.Core.Path.{◌≡◌, refl, sym, ap, ◌∙◌}
 use mathlib.Core.Bool.{Bool, true, false, cond}
 use mathlib.Core.List.{List, [], ◌∷◌, ◌++◌, append-nil, append_assoc}
-use Prim.Native.Char.{code}
 use Prim.Native.Nat.{ℕ, zero, suc, ◌+◌, ◌-◌, ◌*◌, ◌/◌, ◌%◌, ◌<◌, ◌≤◌, min}
 use native.Mathlib.Numerals.{sub-one}
 use native.Mathlib.Omega.{arith}
@@ -135,10 +134,6 @@ pub pairs-append : (a b : List ℕ) → pairs (a ++ b) ≡ pairs a ++ pairs b
 unfolding pairs
 pairs-append [] b = refl
 pairs-append (x ∷ a) b = ap (λ l. glyph (x / 16) ∷ glyph (x % 16) ∷ l) (pairs-append a b)
-
-pub bytes_none : (bs : List ℕ) → length bs ≡ 0 → bytes_text bs ≡ code "-" ∷ []
-bytes_none [] e = refl
-bytes_none (b ∷ bs) e = absurd (omega arith)
 
 pub bytes_some : (bs : List ℕ) → (length bs ≡ 0 → ⊥) → bytes_text bs ≡ pairs bs
 bytes_some [] p = absurd (p refl)

@@ -18,10 +18,6 @@ use Rattle.digits.proofs.Digits.{cut_once, goes_in, stays_out}
 pub line_once : (bs : List ℕ) → line_text (cut bs) ≡ line_text bs
 line_once bs = cut_once bs _
 
--- what a line says may have been cut
-pub line_of : {N : ℕ} (s : Sheet N) {t : Sheet N} {x : List ℕ} (bs : List ℕ) → t ≡ wrote s (line_text x) → x ≡ cut bs → t ≡ wrote s (line_text bs)
-line_of s bs e f = e ∙ rw (f, line_once)
-
 pub wrote_more : {N : ℕ} (ls : List (List ℕ)) (k : ℕ) (z : List ℕ) (s : Sheet N) → k < length ls
     → wrote_all s (drop k ls) ≡ wrote_all (wrote s (get_or ls k z)) (drop (suc k) ls)
 unfolding wrote_all
@@ -38,14 +34,27 @@ unfolding wrote_all
 wrote_then s [] more = refl
 wrote_then s (bs ∷ ls) more = wrote_then (wrote s bs) ls more
 
--- one more of the lines that a function has at 0, 1, 2 ..
-pub wrote_next : {N : ℕ} (s : Sheet N) (f : ℕ → List ℕ) (k : ℕ) → wrote (wrote_all s (values f k)) (f k) ≡ wrote_all s (values f (k + 1))
+-- ---- a line more
+
+-- A sheet t that has a line more than s.
+abbrev pub Adds : {N : ℕ} → Sheet N → List ℕ → Sheet N → Type 0
+Adds s bs t = t ≡ wrote s (line_text bs)
+
+-- One that has the lines more that a function has at 0, 1, 2 .., n of them.
+abbrev pub AddsAll : {N : ℕ} → Sheet N → (ℕ → List ℕ) → ℕ → Sheet N → Type 0
+AddsAll s f n t = t ≡ wrote_all s (values (λ k. line_text (f k)) n)
+
+pub adds : {N : ℕ} (s : Sheet N) {t : Sheet N} {x : List ℕ} (bs : List ℕ) → Adds s x t → x ≡ cut bs → Adds s bs t
+adds s bs e f = e ∙ rw (f, line_once)
+
+next : {N : ℕ} (s : Sheet N) (f : ℕ → List ℕ) (k : ℕ) → wrote (wrote_all s (values f k)) (f k) ≡ wrote_all s (values f (suc k))
 unfolding wrote_all
-wrote_next s f k = rw add-one (next s f k)
-  where
-    next : {N : ℕ} (s : Sheet N) (f : ℕ → List ℕ) (k : ℕ) → wrote (wrote_all s (values f k)) (f k) ≡ wrote_all s (values f (suc k))
-    next s f zero = refl
-    next s f (suc k) = next (wrote s (f 0)) (λ i. f (suc i)) k
+next s f zero = refl
+next s f (suc k) = next (wrote s (f 0)) (λ i. f (suc i)) k
+
+pub adds_next : {N : ℕ} (s : Sheet N) (f : ℕ → List ℕ) (k : ℕ) {t u : Sheet N} {x : List ℕ} → AddsAll s f k t → Adds t x u → x ≡ cut (f k)
+    → AddsAll s f (k + 1) u
+adds_next s f k all one e = rw (one, all, e, line_once, add-one) (next s (λ i. line_text (f i)) k)
 
 -- ---- pieces that all have room
 

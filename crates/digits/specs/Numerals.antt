@@ -1,5 +1,5 @@
 -- The format page, "Lines and words": numbers and bytes as they are written. Assumes nothing.
-use Rattle.std.specs.Prelude.{cond, List, [], ◌∷◌, ◌++◌, ℕ, zero, suc, ◌+◌, ◌-◌, ◌/◌, ◌%◌, eqb, ltb, length, replicate}
+use Rattle.std.specs.Prelude.{cond, List, [], ◌∷◌, ◌++◌, ℕ, zero, suc, ◌+◌, ◌-◌, ◌/◌, ◌%◌, ltb, length, replicate}
 use Prim.Native.Char.{code}
 
 -- "upper case": the digit that stands for a number below 16.
@@ -27,10 +27,6 @@ tenths_text n = decimal_text (n / 10) ++ (code "." ∷ glyph (n % 10) ∷ [])
 unfoldable pub pairs : List ℕ → List ℕ
 pairs [] = []
 pairs (b ∷ bs) = glyph (b / 16) ∷ glyph (b % 16) ∷ pairs bs
-
--- The digit at the place i of a byte string, if b is the byte whose digits stand there: the high one first.
-abbrev pub digit_at : ℕ → ℕ → ℕ
-digit_at b i = glyph (cond (eqb (i % 2) 0) (b / 16) (b % 16))
 
 -- "an empty one is `-`".
 abbrev pub bytes_text : List ℕ → List ℕ

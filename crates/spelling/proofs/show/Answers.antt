@@ -2,26 +2,25 @@
 use mathlib.Core.Path.{◌≡◌}
 use native.Mathlib.Omega.{arith}
 use Rattle.asked.specs.Records.{settings_of, slot_part, held_part}
-use Rattle.digits.specs.Sheets.{line_text}
-use Rattle.digits.proofs.Sheets.{line_once, line_of, wrote_next}
+use Rattle.digits.proofs.Sheets.{adds, adds_next}
 use Rattle.spelling.specs.Spelling.{part_text}
 use Rattle.spelling.proofs.Lines.{shown_by}
 use Rattle.spelling.proofs.show.Goals as goal
 
 pub loop-place-preserved : goal.loop-place-preserved
 loop-place-preserved g c =
-    rw (c.put_line-in-loop-place.ensures, c.spell-in-loop-place.ensures, c.settings_of.ensures, line_once, c.loop-place.invariant)
-    (wrote_next c.put_line-2.new.self (λ k. line_text (part_text (settings_of c.args.u k))) c.loop-place.place)
+    adds_next _ (λ k. part_text (settings_of c.args.u k)) c.loop-place.place c.loop-place.invariant c.put_line-in-loop-place.ensures
+    (rw c.settings_of.ensures at c.spell-in-loop-place.ensures)
 
 pub loop-host-preserved : goal.loop-host-preserved
 loop-host-preserved g c =
-    rw (c.put_line-in-loop-host.ensures, c.spell-in-loop-host.ensures, c.slot_of.ensures, line_once, c.loop-host.invariant)
-    (wrote_next c.put_line-3.new.self (λ k. line_text (part_text (slot_part c.args.u k))) c.loop-host.host)
+    adds_next _ (λ k. part_text (slot_part c.args.u k)) c.loop-host.host c.loop-host.invariant c.put_line-in-loop-host.ensures
+    (rw c.slot_of.ensures at c.spell-in-loop-host.ensures)
 
 pub loop-holder-preserved : goal.loop-holder-preserved
 loop-holder-preserved g c =
-    rw (c.put_line-in-loop-holder.ensures, c.spell-in-loop-holder.ensures, c.held_of.ensures, line_once, c.loop-holder.invariant)
-    (wrote_next c.loop-host.out (λ k. line_text (part_text (held_part c.args.u k))) c.loop-holder.holder)
+    adds_next _ (λ k. part_text (held_part c.args.u k)) c.loop-holder.holder c.loop-holder.invariant c.put_line-in-loop-holder.ensures
+    (rw c.held_of.ensures at c.spell-in-loop-holder.ensures)
 
 pub returns : goal.returns
 returns g c =
@@ -29,12 +28,12 @@ returns g c =
     let hosts : c.loop-host.host ≡ 4 = omega arith in
     let holders : c.loop-holder.holder ≡ 4 = omega arith in
     shown_by c.args.u c.args.out.now
-    (line_of _ _ c.put_line.ensures c.of.ensures)
-    (line_of _ _ c.put_line-2.ensures c.spell.ensures)
+    (adds _ _ c.put_line.ensures c.of.ensures)
+    (adds _ _ c.put_line-2.ensures c.spell.ensures)
     (rw places at c.loop-place.invariant)
-    (line_of _ _ c.put_line-3.ensures (rw c.state_of.ensures at c.spell-2.ensures))
+    (adds _ _ c.put_line-3.ensures (rw c.state_of.ensures at c.spell-2.ensures))
     (rw hosts at c.loop-host.invariant)
     (rw holders at c.loop-holder.invariant)
-    (line_of _ _ c.put_line-4.ensures c.spell-3.ensures)
-    (line_of _ _ c.put_line-5.ensures (rw c.tally_of.ensures at c.spell-4.ensures))
-    (line_of _ _ c.put_line-6.ensures c.of-2.ensures)
+    (adds _ _ c.put_line-4.ensures c.spell-3.ensures)
+    (adds _ _ c.put_line-5.ensures (rw c.tally_of.ensures at c.spell-4.ensures))
+    (adds _ _ c.put_line-6.ensures c.of-2.ensures)
