@@ -1,6 +1,6 @@
 -- Lines are written one after another: with k of them written, those from k on are left to write. Where all have room, they stand there joined.
 use mathlib.Core.Path.{◌≡◌, refl, sym, ap, ◌∙◌}
-use mathlib.Core.List.{List, [], ◌∷◌, ◌++◌, append-nil, append_assoc}
+use mathlib.Core.List.{List, [], ◌∷◌, ◌++◌, append-nil, append_assoc, map}
 use Prim.Native.Nat.{ℕ, zero, suc, ◌+◌, ◌<◌, ◌≤◌}
 use native.Mathlib.Nat.{add-zero}
 use native.Mathlib.Numerals.{add-one}
@@ -55,6 +55,17 @@ next s f (suc k) = next (wrote s (f 0)) (λ i. f (suc i)) k
 pub adds_next : {N : ℕ} (s : Sheet N) (f : ℕ → List ℕ) (k : ℕ) {t u : Sheet N} {x : List ℕ} → AddsAll s f k t → Adds t x u → x ≡ cut (f k)
     → AddsAll s f (k + 1) u
 adds_next s f k all one e = rw (one, all, e, line_once, add-one) (next s (λ i. line_text (f i)) k)
+
+-- one more of a list's pieces
+pub wrote_item : {A : Type 0} {N : ℕ} (s : Sheet N) (f : A → List ℕ) (l : List A) (k : ℕ) (z : A) → k < length l
+    → wrote (wrote_all s (map f (take k l))) (f (get_or l k z)) ≡ wrote_all s (map f (take (k + 1) l))
+unfolding wrote_all
+wrote_item s f l k z h = rw add-one (item s l k h)
+  where
+    item : {N : ℕ} (s : Sheet N) (l : List _) (k : ℕ) → k < length l → wrote (wrote_all s (map f (take k l))) (f (get_or l k z)) ≡ wrote_all s (map f (take (suc k) l))
+    item s [] k h = absurd (omega arith)
+    item s (x ∷ l) zero h = refl
+    item s (x ∷ l) (suc k) h = item (wrote s (f x)) l k (omega arith)
 
 -- ---- pieces that all have room
 
