@@ -5,8 +5,8 @@ use Prim.Native.Nat.{ℕ, zero, suc, ◌+◌, ◌<◌, ◌≤◌}
 use native.Mathlib.Nat.{add-zero}
 use native.Mathlib.Numerals.{add-one}
 use native.Mathlib.Omega.{arith}
-use lib.ListN.{length, get_or, take, drop, drop_of_length-le, length-append}
-use lib.Seq.{paste, drop-cons, length-paste, take-paste, take-length}
+use lib.ListN.{length, get_or, take, length-append}
+use lib.Seq.{paste, length-paste, take-paste, take-length}
 use Rattle.std.proofs.lemmas.List.Edits.{paste_none, paste-paste}
 use Rattle.rows.proofs.Values.{values}
 use Rattle.digits.specs.declared.Sheet.{Sheet}
@@ -17,16 +17,6 @@ use Rattle.digits.proofs.Digits.{cut_once, goes_in, stays_out}
 -- A line that is cut before its LF is put is the line cut once.
 pub line_once : (bs : List ℕ) → line_text (cut bs) ≡ line_text bs
 line_once bs = cut_once bs _
-
-pub wrote_more : {N : ℕ} (ls : List (List ℕ)) (k : ℕ) (z : List ℕ) (s : Sheet N) → k < length ls
-    → wrote_all s (drop k ls) ≡ wrote_all (wrote s (get_or ls k z)) (drop (suc k) ls)
-unfolding wrote_all
-wrote_more ls k z s h = rw (drop-cons ls k z h)
-
--- none is left
-pub wrote_all_lem : {N : ℕ} (ls : List (List ℕ)) (k : ℕ) (s : Sheet N) → length ls ≤ k → wrote_all s (drop k ls) ≡ s
-unfolding wrote_all
-wrote_all_lem ls k s h = rw (drop_of_length-le ls h)
 
 -- some lines, and then the others
 pub wrote_then : {N : ℕ} (s : Sheet N) (ls more : List (List ℕ)) → wrote_all s (ls ++ more) ≡ wrote_all (wrote_all s ls) more
@@ -66,6 +56,16 @@ wrote_item s f l k z h = rw add-one (item s l k h)
     item s [] k h = absurd (omega arith)
     item s (x ∷ l) zero h = refl
     item s (x ∷ l) (suc k) h = item (wrote s (f x)) l k (omega arith)
+
+each : {A : Type 0} (f : A → List ℕ) (l : List A) → map line_text (map f l) ≡ map (λ x. line_text (f x)) l
+each f [] = refl
+each f (x ∷ l) = ap (◌∷◌ (line_text (f x))) (each f l)
+
+-- one more of a list's lines
+pub adds_item : {A : Type 0} {N : ℕ} (s : Sheet N) (f : A → List ℕ) (l : List A) (k : ℕ) (z : A) {t u : Sheet N} {x : List ℕ} → k < length l
+    → t ≡ wrote_all s (map line_text (map f (take k l))) → Adds t x u → x ≡ cut (f (get_or l k z)) → u ≡ wrote_all s (map line_text (map f (take (k + 1) l)))
+adds_item s f l k z h before one e =
+    rw (one, before, e, line_once, each f (take k l), each f (take (k + 1) l)) (wrote_item s (λ x. line_text (f x)) l k z h)
 
 -- ---- pieces that all have room
 
