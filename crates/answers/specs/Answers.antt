@@ -1,10 +1,8 @@
 -- The format page, "Calls": what each call leaves of the unit, and the pieces of the line that it prints. Assumes nothing.
-use Rattle.std.specs.Prelude.{Bool, true, false, cond, List, [], ◌∷◌, map, ℕ, zero, suc, replicate}
+use Rattle.std.specs.Prelude.{Bool, true, false, cond, List, [], ◌∷◌, map, ℕ, zero, suc, replicate, Ok, Err}
 use Rattle.drive.specs.Drives.{maker_of}
 use Rattle.readouts.specs.Readouts.{Filled, sense_outcome, log_outcome, new_page_outcome, transitions_outcome}
 use Rattle.engine.specs.Engine.{manufacture_outcome, epc_outcome, tick_outcome, read_outcome, write_outcome, power_on_outcome, reset_outcome}
-use Rattle.refusals.specs.declared.Answer.{Answer}
-use Rattle.refusals.specs.declared.Answer.TheVariants.{Done, Refused}
 use Rattle.outcomes.specs.declared.Called.{Called}
 use Rattle.unit.specs.declared.Unit.{Unit}
 use Rattle.bridge.specs.Bridge.{start_stop_outcome}
@@ -26,6 +24,7 @@ use Rattle.answers.specs.declared.Page.{Page}
 use Rattle.answers.specs.declared.Page.TheVariants.{Conditions, Transitions, Descriptors}
 use Rattle.findings.specs.Findings.{faults_pieces, record_pieces}
 use Rattle.phrases.specs.Phrases.{called_text, accepted_text, sent_text, progress_text, before_bytes}
+use Rattle.refusals.specs.Refusals.{Verdict}
 
 -- The unit after a call, and what is printed, piece by piece.
 pub record CallResponse : Type 0 where
@@ -40,16 +39,16 @@ abbrev pub called_response : Called → CallResponse
 called_response c = one_line c.unit (called_text c.answer)
 
 -- `tick N`: "N single ticks"; "stops at the first refusal and prints it; `tick 0` makes no call and prints `ok`".
-abbrev pub is_done : Answer → Bool
-is_done Done = true
-is_done (Refused r) = false
+abbrev pub is_done : Verdict → Bool
+is_done (Ok _) = true
+is_done (Err r) = false
 
 unfoldable pub ticks_after : ℕ → Called → Called
 ticks_after zero c = c
 ticks_after (suc n) c = cond (is_done c.answer) (ticks_after n (tick_outcome c.unit)) c
 
 abbrev pub ticks : ℕ → Unit → Called
-ticks n u = ticks_after n (record { answer = Done; unit = u })
+ticks n u = ticks_after n (record { answer = Ok tt; unit = u })
 
 -- `tick`, `epc`, `read`, `write`, `reset`.
 abbrev pub plain_outcome : Unit → PlainCall → Called
@@ -65,7 +64,7 @@ plain_outcome u SoftReset = reset_outcome u
 abbrev pub unfilled : ℕ → List ℕ
 unfilled len = replicate (buffer_length len) 0xA5
 
-abbrev pub filled_pieces : Answer → List ℕ → List (List ℕ)
+abbrev pub filled_pieces : Verdict → List ℕ → List (List ℕ)
 filled_pieces a buffer = cut (before_bytes a) ∷ bytes_text buffer ∷ line_text [] ∷ []
 
 abbrev pub filled_response : Filled → CallResponse

@@ -21,7 +21,7 @@ use conditions::Condition;
 use digits::Text;
 use drive::{Made, Record};
 use outcomes::Called;
-use refusals::Answer;
+use refusals::Refusal;
 use requests::Reply;
 use unit::Unit;
 
@@ -47,13 +47,10 @@ pub enum Page {
     Descriptors(u32),
 }
 
-fn is_done(a: Answer) -> bool
+fn is_done(a: Result<(), Refusal>) -> bool
     ensures { result ≡ Answers.is_done a }
 {
-    match a {
-        Answer::Done => true,
-        Answer::Refused(_) => false,
-    }
+    a.is_ok()
 }
 
 // N single ticks; stops at the first refusal.
@@ -61,7 +58,7 @@ fn ticks(u: Unit, n: u32) -> Called
     ensures { result ≡ Answers.ticks n u }
 {
     let mut unit = u;
-    let mut answer = Answer::Done;
+    let mut answer = Ok(());
     let mut left = n;
     while (left > 0) & is_done(answer) {
         let c = power::tick(unit);
@@ -150,7 +147,7 @@ fn put_told(t: Told, out: &mut [u8], at: usize) -> Printed
 }
 
 // An answer, the buffer as the call left it, and the line's end.
-fn put_filled(a: Answer, buffer: &[u8], out: &mut [u8], at: usize) -> usize
+fn put_filled(a: Result<(), Refusal>, buffer: &[u8], out: &mut [u8], at: usize) -> usize
     ensures { sheet out.new result ≡ wrote_all (sheet out.old at) (filled_pieces a buffer.now) }
 {
     let head = digits::copy_out(phrases::before_bytes(a), out, at);
@@ -179,7 +176,7 @@ fn sense(u: Unit, host: u32, len: u32, out: &mut [u8], at: usize) -> Printed
     }
 }
 
-fn read_page(u: Unit, page: Page, buffer: &mut [u8]) -> Answer
+fn read_page(u: Unit, page: Page, buffer: &mut [u8]) -> Result<(), Refusal>
     ensures { (result ≡ (page_outcome page u buffer.old).called.answer) × (buffer.new ≡ (page_outcome page u buffer.old).buffer) }
 {
     match page {

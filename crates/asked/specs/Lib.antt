@@ -1,4 +1,5 @@
 pub mod Editions
+pub mod Kinds
 pub mod Lengths
 pub mod Offers
 pub mod Records

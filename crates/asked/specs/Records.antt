@@ -1,5 +1,5 @@
 -- The format page, "Set-up": the parts that a record is made of, a line of a block each. Assumes nothing.
-use Rattle.std.specs.Prelude.{List, [], ◌∷◌, ◌++◌, ℕ, ◌+◌, get_or}
+use Rattle.std.specs.Prelude.{List, [], ◌∷◌, ◌++◌, ℕ, get_or}
 use Rattle.conditions.specs.Conditions.{condition_at}
 use Rattle.drive.specs.Records.{unsupported}
 use Rattle.unit.specs.Units.{slot_of, held_of}
@@ -7,8 +7,7 @@ use Rattle.unit.specs.declared.Unit.{Unit}
 use Rattle.asked.specs.declared.Part.{Part}
 use Rattle.asked.specs.declared.Part.TheVariants.{IsOf, Settings, Stands, HasSlot, HasHeld, HasOut, HasCounts}
 use Rattle.asked.specs.declared.State.{State}
-use Rattle.asked.specs.declared.Entries.{Entries}
-use Rattle.asked.specs.declared.Tally.{Tally}
+use Rattle.transitions.specs.Counts.{table_of}
 
 abbrev pub settings_of : Unit → ℕ → Part
 settings_of u place = Settings (condition_at place) (get_or u.drive.records place unsupported)
@@ -29,21 +28,8 @@ hosts_of u =
     ∷ HasOut u.out ∷ []
 
 -- `counts`: "twelve numbers, rows in power order, each timer then other", as the record keeps them.
-abbrev pub entries_at : ℕ → List ℕ → Entries
-entries_at at counts = record { timer = get_or counts at 0; other = get_or counts (at + 1) 0 }
-
-abbrev pub tally_of : List ℕ → Tally
-tally_of counts = record {
-  active = entries_at 0 counts;
-  a = entries_at 2 counts;
-  b = entries_at 4 counts;
-  c = entries_at 6 counts;
-  y = entries_at 8 counts;
-  z = entries_at 10 counts;
-}
-
 abbrev pub counts_part : Unit → Part
-counts_part u = HasCounts (tally_of u.drive.counts)
+counts_part u = HasCounts (table_of u.drive.counts)
 
 -- "the five `c` lines (A B C Y Z), `state`, `slot 0` to `slot 3`, `held 0` to `held 3`, `out`"; "`show` prints it after `out`" of `counts`.
 abbrev pub after_edition : Unit → List Part

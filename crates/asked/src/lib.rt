@@ -2,16 +2,17 @@
 #![tactic(auto)]
 
 ghost use Rattle.std.specs.Prelude.{◌≡◌, ◌≤◌};
-ghost use Rattle.conditions.specs.Conditions.{condition_at};
+ghost use Rattle.words.specs.Words.{words};
+ghost use Rattle.words.specs.Fields.{name_in};
 ghost use Rattle.asked.specs.Editions.{edition_from};
+ghost use Rattle.asked.specs.Kinds.{kind_in, condition_in};
 ghost use Rattle.asked.specs.Lengths.{buffer_length};
-ghost use Rattle.asked.specs.Offers;
 
 use conditions::{Condition, Power};
 use drive::{Edition, Record, Tenths};
 use registers::Registers;
-use requests::Reply;
-use unit::{Held, Out, Slot};
+use requests::{Failure, Reply};
+use unit::Slot;
 
 // A call that answers that it is done, or a refusal.
 #[derive(Clone, Copy)]
@@ -25,7 +26,7 @@ pub enum PlainCall {
     SoftReset,
 }
 
-// A call; START STOP UNIT's bytes are read apart, since an enum holds no array.
+// A call; START STOP UNIT's bytes and a page's are read apart, from the text, so that no line is as large as the longest page.
 #[derive(Clone, Copy)]
 pub enum CallLine {
     Plain(PlainCall),
@@ -49,24 +50,6 @@ pub struct State {
     pub unsaved: bool,
 }
 
-// How often a condition was entered: by a timer, and otherwise.
-#[derive(Clone, Copy)]
-pub struct Entries {
-    pub timer: u32,
-    pub other: u32,
-}
-
-// What the line `counts` sets: a field a row of the table of counts, since an enum holds no array.
-#[derive(Clone, Copy)]
-pub struct Tally {
-    pub active: Entries,
-    pub a: Entries,
-    pub b: Entries,
-    pub c: Entries,
-    pub y: Entries,
-    pub z: Entries,
-}
-
 // What one line of a `unit` block sets.
 #[derive(Clone, Copy)]
 pub enum Part {
@@ -74,16 +57,15 @@ pub enum Part {
     Settings(Condition, Record),
     Stands(State),
     HasSlot(u32, Slot),
-    HasHeld(u32, Held),
-    HasOut(Out),
-    HasCounts(Tally),
+    HasHeld(u32, Option<Failure>),
+    HasOut(Option<u32>),
+    HasCounts([[u32; 2]; 6]),
 }
 
 // A line of a `unit` block sets a part of the record; one of a `make` block tells what manufacture makes of a condition.
 #[derive(Clone, Copy)]
 pub enum Line {
     Blank,
-    Wrong,
     Asks(CallLine),
     Sets(Part),
     Tells(Condition, Record),
@@ -94,22 +76,31 @@ pub enum Line {
     Tables,
 }
 
-// A line that is as the format says, or not.
-pub fn offered(good: bool, line: Line) -> Line
-    ensures { result ≡ Offers.offered good line }
+// What the word of that number names: of these kinds the one at the name's place.
+pub fn kind_at<T: Copy, const N: usize>(line: &[u8], k: usize, names: &[u8], kinds: [T; N]) -> Option<T>
+    ensures { result ≡ kind_in (words names.now) kinds k line.now }
 {
-    if good { line } else { Line::Wrong }
+    let place = words::name_at(line, k, names)?;
+    kinds.get(place).copied()
 }
 
-// The condition of that place among the names; the first where there is none.
-pub fn condition_at(place: usize) -> Condition
-    ensures { result ≡ condition_at place }
+// The condition whose letter the word of that number is.
+#[tactic(auto, unfolding(words::specs::Words::words, words::specs::Words::pieces, words::specs::Words::nonempty))]
+pub fn condition_named(line: &[u8], k: usize) -> Option<Condition>
+    ensures { result ≡ condition_in k line.now }
 {
-    if place < 5 {
-        conditions::condition_at(place)
-    } else {
-        Condition::IdleA
-    }
+    kind_at(
+        line,
+        k,
+        b"A B C Y Z",
+        [
+            Condition::IdleA,
+            Condition::IdleB,
+            Condition::IdleC,
+            Condition::StandbyY,
+            Condition::StandbyZ,
+        ],
+    )
 }
 
 // The edition that a flag stands for.

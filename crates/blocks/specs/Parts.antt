@@ -7,18 +7,7 @@ use Rattle.unit.specs.Units.{with_edition, with_drive, with_marks, with_slot, wi
 use Rattle.unit.specs.declared.Unit.{Unit}
 use Rattle.asked.specs.declared.Part.{Part}
 use Rattle.asked.specs.declared.Part.TheVariants.{IsOf, Settings, Stands, HasSlot, HasHeld, HasOut, HasCounts}
-use Rattle.asked.specs.declared.Tally.{Tally}
-
--- `counts`: "twelve numbers, rows in power order, each timer then other".
-abbrev pub counts_of : Tally → List ℕ
-counts_of t =
-    t.active.timer ∷ t.active.other
-    ∷ t.a.timer ∷ t.a.other
-    ∷ t.b.timer ∷ t.b.other
-    ∷ t.c.timer ∷ t.c.other
-    ∷ t.y.timer ∷ t.y.other
-    ∷ t.z.timer ∷ t.z.other
-    ∷ []
+use Rattle.transitions.specs.Counts.{flat_of}
 
 -- "of two that set the same, the last holds".
 abbrev pub set_part : Part → Unit → Unit
@@ -29,7 +18,7 @@ set_part (Stands s) u =
 set_part (HasSlot host s) u = with_slot host s u
 set_part (HasHeld host h) u = with_held host h u
 set_part (HasOut out) u = with_out out u
-set_part (HasCounts t) u = with_drive (with_counts (counts_of t) u.drive) u
+set_part (HasCounts table) u = with_drive (with_counts (flat_of table) u.drive) u
 
 -- The lines of a block, one after the other.
 abbrev pub set_all : List Part → Unit → Unit

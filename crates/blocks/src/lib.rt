@@ -1,22 +1,21 @@
 // The blocks of a script, `unit` and `make`: what their lines set, and the session that they stand in.
 #![tactic(auto)]
 
-ghost use Rattle.std.specs.Prelude.{◌≡◌};
+ghost use Rattle.std.specs.Prelude.{◌≡◌, Some};
 ghost use Rattle.asked.specs.declared.Line.TheVariants.{Sets, Tells};
 ghost use Rattle.asked.specs.declared.Part.TheVariants.{IsOf, Settings, Stands, HasCounts};
-ghost use Rattle.blocks.specs.Parts.{counts_of, set_part};
+ghost use Rattle.blocks.specs.Parts.{set_part};
 ghost use Rattle.blocks.specs.Sessions;
 ghost use Rattle.blocks.specs.Sessions.{start_session, opened, opened_make, takes_parts, takes_told, after_line, closed_with, closed};
 
-use asked::{Line, Part, State, Tally};
+use asked::{Line, Part, State};
 use conditions::Condition;
 use drive::{Drive, Edition, Record};
 use unit::Unit;
 
-// Which block is open: none, or that of `unit` or of `make`.
+// The block that is open: that of `unit` or of `make`.
 #[derive(Clone, Copy)]
 pub enum Block {
-    NoBlock,
     UnitBlock,
     MakeBlock,
 }
@@ -26,7 +25,7 @@ pub enum Block {
 #[derive(Clone, Copy)]
 pub struct Session {
     pub unit: Unit,
-    pub block: Block,
+    pub block: Option<Block>,
     pub good: bool,
     pub planned: Unit,
 }
@@ -35,72 +34,33 @@ pub struct Session {
 fn set_edition(u: Unit, edition: Edition) -> Unit
     ensures { result ≡ set_part (IsOf edition) u }
 {
-    let d = u.drive;
-    let slots = u.slots;
-    let held = u.held;
-    let out = u.out;
-    Unit {
-        edition,
-        drive: d,
-        stopped: u.stopped,
-        unsaved: u.unsaved,
-        slots,
-        held,
-        out,
-    }
+    Unit { edition, ..u }
 }
 
 fn set_record(u: Unit, c: Condition, r: Record) -> Unit
     ensures { result ≡ set_part (Settings c r) u }
 {
-    let d = u.drive;
-    let place = conditions::place_of(c);
-    let mut records = d.records;
-    records[place] = r;
-    unit::with_drive(u, drive::with_records(d, records))
+    let mut records = u.drive.records;
+    records[conditions::place_of(c)] = r;
+    unit::with_drive(u, drive::with_records(u.drive, records))
 }
 
 fn set_state(u: Unit, s: State) -> Unit
     ensures { result ≡ set_part (Stands s) u }
 {
-    let records = u.drive.records;
-    let counts = u.drive.counts;
-    let power = s.power;
-    let idle = s.idle;
     let d = Drive {
-        records,
-        power,
-        idle,
-        counts,
+        power: s.power,
+        idle: s.idle,
+        ..u.drive
     };
     unit::with_marks(unit::with_drive(u, d), s.stopped, s.unsaved)
 }
 
-// The table of counts as the record keeps it.
-fn counts_of(t: Tally) -> [u32; 12]
-    ensures { result ≡ counts_of t }
+fn set_counts(u: Unit, table: [[u32; 2]; 6]) -> Unit
+    ensures { result ≡ set_part (HasCounts table) u }
 {
-    [
-        t.active.timer,
-        t.active.other,
-        t.a.timer,
-        t.a.other,
-        t.b.timer,
-        t.b.other,
-        t.c.timer,
-        t.c.other,
-        t.y.timer,
-        t.y.other,
-        t.z.timer,
-        t.z.other,
-    ]
-}
-
-fn set_counts(u: Unit, t: Tally) -> Unit
-    ensures { result ≡ set_part (HasCounts t) u }
-{
-    let d = u.drive;
-    unit::with_drive(u, drive::with_counts(d, counts_of(t)))
+    let counts = transitions::flat_of(table);
+    unit::with_drive(u, drive::with_counts(u.drive, counts))
 }
 
 fn set_part(u: Unit, p: Part) -> Unit
@@ -113,7 +73,7 @@ fn set_part(u: Unit, p: Part) -> Unit
         Part::HasSlot(host, slot) => unit::with_slot(u, host, slot),
         Part::HasHeld(host, held) => unit::with_held(u, host, held),
         Part::HasOut(out) => unit::with_out(u, out),
-        Part::HasCounts(tally) => set_counts(u, tally),
+        Part::HasCounts(table) => set_counts(u, table),
     }
 }
 
@@ -126,43 +86,31 @@ pub fn start() -> Session
     let zero = unit::blank_unit(Edition::Draft);
     Session {
         unit: zero,
-        block: Block::NoBlock,
+        block: None,
         good: true,
         planned: zero,
     }
 }
 
-pub fn is_open(block: Block) -> bool
+pub fn is_open(block: Option<Block>) -> bool
     ensures { result ≡ Sessions.is_open block }
 {
-    match block {
-        Block::NoBlock => false,
-        Block::UnitBlock => true,
-        Block::MakeBlock => true,
-    }
+    block.is_some()
 }
 
 // A session whose unit a call has changed.
 pub fn with_unit(s: Session, u: Unit) -> Session
     ensures { result ≡ Sessions.with_unit u s }
 {
-    let block = s.block;
-    let planned = s.planned;
-    Session {
-        unit: u,
-        block,
-        good: s.good,
-        planned,
-    }
+    Session { unit: u, ..s }
 }
 
 pub fn open_block(s: Session) -> Session
     ensures { result ≡ opened s }
 {
-    let unit = s.unit;
     Session {
-        unit,
-        block: Block::UnitBlock,
+        unit: s.unit,
+        block: Some(Block::UnitBlock),
         good: true,
         planned: unit::blank_unit(Edition::Draft),
     }
@@ -171,10 +119,9 @@ pub fn open_block(s: Session) -> Session
 pub fn open_make(s: Session, edition: Edition) -> Session
     ensures { result ≡ opened_make edition s }
 {
-    let unit = s.unit;
     Session {
-        unit,
-        block: Block::MakeBlock,
+        unit: s.unit,
+        block: Some(Block::MakeBlock),
         good: true,
         planned: unit::blank_unit(edition),
     }
@@ -183,86 +130,54 @@ pub fn open_make(s: Session, edition: Edition) -> Session
 fn spoilt(s: Session) -> Session
     ensures { result ≡ Sessions.spoilt s }
 {
-    let unit = s.unit;
-    let block = s.block;
-    let planned = s.planned;
-    Session {
-        unit,
-        block,
-        good: false,
-        planned,
-    }
+    Session { good: false, ..s }
 }
 
-fn takes_parts(block: Block) -> bool
+fn takes_parts(block: Option<Block>) -> bool
     ensures { result ≡ takes_parts block }
 {
-    match block {
-        Block::UnitBlock => true,
-        Block::NoBlock => false,
-        Block::MakeBlock => false,
-    }
+    matches!(block, Some(Block::UnitBlock))
 }
 
-fn takes_told(block: Block) -> bool
+fn takes_told(block: Option<Block>) -> bool
     ensures { result ≡ takes_told block }
 {
-    match block {
-        Block::MakeBlock => true,
-        Block::NoBlock => false,
-        Block::UnitBlock => false,
-    }
+    matches!(block, Some(Block::MakeBlock))
 }
 
 fn with_part(s: Session, p: Part) -> Session
-    ensures { result ≡ after_line (Sets p) s }
+    ensures { result ≡ after_line (Some (Sets p)) s }
 {
-    let unit = s.unit;
-    let block = s.block;
-    let before = s.planned;
-    if takes_parts(block) {
+    if takes_parts(s.block) {
         return Session {
-            unit,
-            block,
-            good: s.good,
-            planned: set_part(before, p),
+            planned: set_part(s.planned, p),
+            ..s
         };
     }
     spoilt(s)
 }
 
 fn with_told(s: Session, c: Condition, made: Record) -> Session
-    ensures { result ≡ after_line (Tells c made) s }
+    ensures { result ≡ after_line (Some (Tells c made)) s }
 {
-    let unit = s.unit;
-    let block = s.block;
-    let before = s.planned;
-    if takes_told(block) {
+    if takes_told(s.block) {
         return Session {
-            unit,
-            block,
-            good: s.good,
-            planned: set_record(before, c, made),
+            planned: set_record(s.planned, c, made),
+            ..s
         };
     }
     spoilt(s)
 }
 
 // A line of an open block other than its `end`.
-pub fn block_line(s: Session, line: Line) -> Session
+pub fn block_line(s: Session, line: Option<Line>) -> Session
     ensures { result ≡ after_line line s }
 {
     match line {
-        Line::Blank => s,
-        Line::Sets(part) => with_part(s, part),
-        Line::Tells(c, made) => with_told(s, c, made),
-        Line::Wrong => spoilt(s),
-        Line::Asks(_) => spoilt(s),
-        Line::Opens => spoilt(s),
-        Line::Makes(_) => spoilt(s),
-        Line::Closes => spoilt(s),
-        Line::Shows => spoilt(s),
-        Line::Tables => spoilt(s),
+        Some(Line::Blank) => s,
+        Some(Line::Sets(part)) => with_part(s, part),
+        Some(Line::Tells(c, made)) => with_told(s, c, made),
+        _ => spoilt(s),
     }
 }
 
@@ -270,12 +185,10 @@ pub fn block_line(s: Session, line: Line) -> Session
 pub fn close_with(s: Session, u: Unit) -> Session
     ensures { result ≡ closed_with u s }
 {
-    let planned = s.planned;
     Session {
         unit: u,
-        block: Block::NoBlock,
-        good: s.good,
-        planned,
+        block: None,
+        ..s
     }
 }
 
@@ -283,10 +196,8 @@ pub fn close_with(s: Session, u: Unit) -> Session
 pub fn close_block(s: Session) -> Session
     ensures { result ≡ closed s }
 {
-    let before = s.unit;
-    let planned = s.planned;
     if s.good {
-        return close_with(s, planned);
+        return close_with(s, s.planned);
     }
-    close_with(s, before)
+    close_with(s, s.unit)
 }

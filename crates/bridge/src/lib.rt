@@ -6,24 +6,24 @@ ghost use Rattle.bridge.specs.Bridge.{start_stop_outcome};
 ghost use Rattle.bridge.specs.Inner.{slot_for, acceptance_of};
 ghost use Rattle.unit.specs.Units.{with_slot, rested};
 
-use cdb::Wanted;
 use operations::Acceptance;
-use refusals::Verdict;
+use refusals::Refusal;
+use requests::Target;
 use unit::{Slot, Unit};
 
 #[derive(Clone, Copy)]
 pub struct StartStopped {
-    pub answer: Acceptance,
+    pub answer: Result<Acceptance, Refusal>,
     pub unit: Unit,
 }
 
 // What the CDB puts into the host's slot.
-fn slot_for(w: Wanted, cdb: &[u8]) -> Slot
+fn slot_for(w: Option<Target>, cdb: &[u8]) -> Slot
     ensures { result ≡ slot_for w cdb.now }
 {
     match w {
-        Wanted::Unlisted => Slot::Empty,
-        Wanted::Wants(t) => Slot::Waiting(cdb::request_for(t, cdb)),
+        None => Slot::Empty,
+        Some(t) => Slot::Waiting(cdb::request_for(t, cdb)),
     }
 }
 
@@ -34,13 +34,11 @@ fn wait_unless(u: Unit, kept: bool, host: u32, s: Slot) -> Unit
     unit::with_slot_unless(unit::rest_unless(u, kept), kept, host, s)
 }
 
-fn acceptance_of(v: Verdict, immediate: bool) -> Acceptance
+fn acceptance_of(v: Result<(), Refusal>, immediate: bool) -> Result<Acceptance, Refusal>
     ensures { result ≡ acceptance_of v immediate }
 {
-    match v {
-        Verdict::Clear => operations::accepted_as(immediate),
-        Verdict::Given(r) => Acceptance::NotAccepted(r),
-    }
+    v?;
+    Ok(operations::accepted_as(immediate))
 }
 
 // START STOP UNIT.
@@ -65,7 +63,7 @@ pub fn start_stop_unit(u: Unit, host: u32, cdb: &[u8]) -> StartStopped
     );
     let s = slot_for(w, cdb);
     // Kept by a number; and where nothing is listed, which the verdict rules out.
-    let kept = refusals::is_given(v) | !unit::is_waiting(s);
+    let kept = v.is_err() | !unit::is_waiting(s);
     StartStopped {
         answer: acceptance_of(v, cdb::is_immed(cdb)),
         unit: wait_unless(u, kept, host, s),

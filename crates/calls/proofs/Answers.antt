@@ -1,5 +1,6 @@
 -- "Answers.": what the answer to a host's command leaves of the condition, the marks and the idle count, over the host, the target and the condition.
 -- Which command is out follows from the slot and the unsaved mark; the rest is what the answer's outcome comes to.
+use Rattle.std.proofs.Common.{Some}
 use mathlib.Core.Path.{◌≡◌, refl}
 use mathlib.Core.Bool.{Bool, true, false, cond}
 use Prim.Native.Nat.{ℕ}
@@ -17,7 +18,6 @@ use Rattle.requests.specs.declared.Reply.{Reply}
 use Rattle.requests.specs.declared.Reply.TheVariants.{Good, Bad}
 use Rattle.unit.specs.Units.{slot_of, well_formed}
 use Rattle.unit.specs.declared.Slot.TheVariants.{Waiting}
-use Rattle.unit.specs.declared.Out.TheVariants.{OutFor}
 use Rattle.unit.specs.declared.Unit.{Unit}
 use Rattle.operations.specs.Operations.{last_of, due_from, is_flush, one_more, flushes_of}
 use Rattle.operations.specs.declared.Due.TheVariants.{Flush}
@@ -27,7 +27,7 @@ use Rattle.calls.proofs.Leaves.{Leaves}
 use Rattle.calls.proofs.Progress.{answer_taken, last_no_flush}
 
 module _ (u : Unit) (fine : well_formed u ≡ true) (host : ℕ) (q : Request) (waiting : slot_of u.slots host ≡ Waiting q)
-    (out : u.out ≡ OutFor host) where
+    (out : u.out ≡ Some host) where
   failed_leaves : (flushes : ℕ) → Leaves Active u.stopped u.unsaved (failed u host q flushes).unit
   failed_leaves flushes =
       either (Leaves Active u.stopped u.unsaved) q.immed _ _

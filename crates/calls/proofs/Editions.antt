@@ -1,5 +1,6 @@
 -- Document 02, request (vi), over all calls: no call changes the edition, so what is well formed stays within the edition's largest timer, and that is one
 -- law over the edition. What the log pages tell, of units of either edition; and number 11.
+use Rattle.std.proofs.Common.{Ok, Err}
 use mathlib.Core.Path.{◌≡◌, refl, sym, ap, subst, ◌∙◌}
 use mathlib.Core.Bool.{Bool, true, false, not, true≢false, false≢true}
 use mathlib.Core.List.{List, [], ◌∷◌, map}
@@ -32,8 +33,6 @@ use Rattle.published.proofs.ReadBack.{pages_read, pages_tell}
 use Rattle.refusals.specs.Refusals.{◌gives◌, lowest}
 use Rattle.refusals.specs.declared.Refusal.TheVariants.{BadLength, BadRecord, NoSuchPage, Aborted}
 use Rattle.refusals.specs.Verdicts.{rows_of_record}
-use Rattle.refusals.specs.declared.Verdict.{Verdict}
-use Rattle.refusals.specs.declared.Verdict.TheVariants.{Clear, Given}
 use Rattle.refusals.proofs.Lowest.{clear_not_given, not_applies, clear_length, clear_when}
 use Rattle.outcomes.specs.Settled.{settled}
 use Rattle.engine.specs.Engine.{manufacture_outcome}
@@ -52,6 +51,7 @@ use Rattle.calls.proofs.Numbers.{own_told, refused_exactly}
 use Rattle.calls.proofs.Reserved.{bit_is_10}
 use Rattle.calls.proofs.Steps.{after_every}
 use Rattle.calls.proofs.WellFormed.{run_well_formed, manufacture_well_formed}
+use Rattle.refusals.specs.Refusals.{Verdict}
 
 -- ---- the edition stays
 
@@ -86,8 +86,8 @@ unfolding manufacture_outcome
 manufacture_edition ed ms = on (lowest (rows_of_record (well_formed (made_unit ed ms))))
   where
     on : (v : Verdict) → (settled (blank ed) (made_unit ed ms) v).unit.edition ≡ ed
-    on Clear = refl
-    on (Given r) = refl
+    on (Ok _) = refl
+    on (Err r) = refl
 
 -- Whether a unit of this edition is made of five conditions with this timer.
 abbrev is_made : Edition → ℕ → Bool
@@ -166,7 +166,7 @@ minutes_abort u q one other = bit_is_10 u q 7 (omega arith) (minutes_named u.edi
 -- ---- number 11
 
 three_rows : (a b c : Bool)
-    → (lowest ((a gives BadLength) ∷ (b gives BadRecord) ∷ (c gives NoSuchPage) ∷ []) ≡ Given NoSuchPage) ↔ ((a ≡ false) × (b ≡ false) × (c ≡ true))
+    → (lowest ((a gives BadLength) ∷ (b gives BadRecord) ∷ (c gives NoSuchPage) ∷ []) ≡ Err NoSuchPage) ↔ ((a ≡ false) × (b ≡ false) × (c ≡ true))
 unfolding lowest
 three_rows true b c = (λ e. let no : ◌≡◌ {A = ℕ} 1 11 = cc in absurd (omega arith), λ h. absurd (true≢false h.0))
 three_rows false true c = (λ e. let no : ◌≡◌ {A = ℕ} 3 11 = cc in absurd (omega arith), λ h. absurd (true≢false h.1))
@@ -175,7 +175,7 @@ three_rows false false false = (λ e. absurd (clear_not_given NoSuchPage e), λ 
 
 -- It is given "for a new page asked of a draft unit or a page above 1", where 1 and 3 are not.
 pub eleven_exactly : (u : Unit) (number : ℕ) (buffer : List ℕ)
-    → (verdict_in (outcome u (new_page number buffer)).said ≡ Given NoSuchPage)
+    → (verdict_in (outcome u (new_page number buffer)).said ≡ Err NoSuchPage)
     ↔ ((length buffer ≡ 512) × (well_formed u ≡ true) × ((u.edition ≡ Draft) ⊎ (1 < number)))
 eleven_exactly u number buffer =
     let told = own_told u (new_page number buffer) in
@@ -186,12 +186,12 @@ eleven_exactly u number buffer =
     )
 
 -- No other call is given it.
-pub eleven_is_page : (u : Unit) (c : Call) → verdict_in (outcome u c).said ≡ Given NoSuchPage → is_new_page c ≡ true
+pub eleven_is_page : (u : Unit) (c : Call) → verdict_in (outcome u c).said ≡ Err NoSuchPage → is_new_page c ≡ true
 eleven_is_page u c e = and_left (is_new_page c) _ ((refused_exactly u c NoSuchPage).0 e).itself
 
 -- A new page is read exactly of a published unit, page 0 or 1, into 512 bytes: whatever waits or is out.
 pub new_page_exactly : (u : Unit) (number : ℕ) (buffer : List ℕ)
-    → (verdict_in (outcome u (new_page number buffer)).said ≡ Clear)
+    → (verdict_in (outcome u (new_page number buffer)).said ≡ Ok tt)
     ↔ ((length buffer ≡ 512) × (well_formed u ≡ true) × (u.edition ≡ Published) × (number ≤ 1))
 new_page_exactly u number buffer =
     let told = own_told u (new_page number buffer) in

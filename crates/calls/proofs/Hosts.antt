@@ -1,19 +1,19 @@
 -- A call changes no slot and no held sense but those of its own host: each effect sets the one or the other there, or clears all.
+use Rattle.std.proofs.Common.{Ok, None}
 use mathlib.Core.Path.{◌≡◌, refl}
 use mathlib.Core.Bool.{Bool, true, false, ◌||◌, false≢true, true≢false}
 use Prim.Native.Nat.{ℕ}
 use lib.ListN.{replicate}
 use Rattle.requests.specs.declared.Reply.TheVariants.{Good}
-use Rattle.unit.specs.Units.{empty_slot, slot_of, none_held, held_of}
+use Rattle.unit.specs.Units.{slot_of, held_of}
 use Rattle.unit.specs.declared.Unit.{Unit}
-use Rattle.unit.specs.declared.Out.TheVariants.{NoneOut}
-use Rattle.refusals.specs.declared.Verdict.TheVariants.{Clear}
 use Rattle.calls.specs.Calls.{Call, set_features, tick, read, write, power_on, hard_reset, soft_reset, start_stop, next, answer, request_sense, log_page, transitions_page, new_page, outcome, step}
 use Rattle.calls.specs.Described.{Reach, nobody, only, everybody, reach_of, is_reset, is_sense, same_kind, effect}
 use Rattle.calls.specs.Table.{verdict_in}
 use Rattle.calls.proofs.Numbers.{acceptance_does}
 use Rattle.calls.proofs.Steps.{after_every}
 use Rattle.unit.proofs.Hosts.{other_slot, other_held}
+use Rattle.unit.specs.declared.Slot.TheVariants.{Empty}
 
 -- Host k has in v the slot and the held sense that it has in u.
 abbrev pub SameFor : ℕ → Unit → Unit → Type 0
@@ -89,12 +89,12 @@ held_kept_lem u = after_every (λ c v. may_hold c ≡ false → v.held ≡ u.hel
 
 -- "no operation, command out, deferred sense": of no host is anything left.
 pub record Cleared (u : Unit) : Type 0 where
-  pub slots : u.slots ≡ replicate 4 empty_slot
-  pub held : u.held ≡ replicate 4 none_held
-  pub out : u.out ≡ NoneOut
+  pub slots : u.slots ≡ replicate 4 Empty
+  pub held : u.held ≡ replicate 4 None
+  pub out : u.out ≡ None
 
 -- A reset is everybody's, and an accepted one clears all.
-pub reset_clears_lem : (u : Unit) (c : Call) → is_reset c ≡ true → verdict_in (outcome u c).said ≡ Clear
+pub reset_clears_lem : (u : Unit) (c : Call) → is_reset c ≡ true → verdict_in (outcome u c).said ≡ Ok tt
     → (reach_of c ≡ everybody) × Cleared (step u c)
 reset_clears_lem u c reset e = rw (acceptance_does u c e).0 (on c reset)
   where

@@ -1,5 +1,6 @@
 -- What ticks, the medium's use, START STOP UNIT, the next command, REQUEST SENSE, log pages and resets leave of the condition, the settings, the marks
 -- and the idle count: each accepted call has its effect, and the effect is computed field by field. What resets take from the hosts is Hosts · reset_clears_lem.
+use Rattle.std.proofs.Common.{Ok, Err, None}
 use mathlib.Core.Path.{◌≡◌, ap, refl, sym, ◌∙◌}
 use mathlib.Core.Bool.{Bool, true, false, true≢false}
 use mathlib.Core.List.{List}
@@ -19,11 +20,7 @@ use Rattle.drive.specs.declared.Record.{Record}
 use Rattle.epc.specs.Epc.{performed}
 use Rattle.registers.specs.declared.Registers.{Registers}
 use Rattle.refusals.specs.Refusals.{lowest}
-use Rattle.refusals.specs.declared.Answer.TheVariants.{Done}
-use Rattle.refusals.specs.declared.Verdict.{Verdict}
-use Rattle.refusals.specs.declared.Verdict.TheVariants.{Clear, Given}
 use Rattle.unit.specs.Units.{well_formed, is_out, with_drive, largest_of, held_of}
-use Rattle.unit.specs.declared.Held.TheVariants.{Nothing}
 use Rattle.unit.proofs.Hosts.{held_again}
 use Rattle.senses.specs.Senses.{sense_bytes, power_sense}
 use Rattle.unit.specs.declared.Unit.{Unit}
@@ -36,6 +33,7 @@ use Rattle.calls.specs.Table.{is_epc, verdict_in}
 use Rattle.calls.specs.Described.{effect, is_power_on}
 use Rattle.calls.proofs.Numbers.{acceptance_does, other_keeps, own_told, start_wants}
 use Rattle.calls.proofs.Steps.{after_every}
+use Rattle.refusals.specs.Refusals.{Verdict}
 
 -- The record has this condition and these marks, and idle count 0.
 pub record Leaves (p : Power) (stop save : Bool) (v : Unit) : Type 0 where
@@ -48,7 +46,7 @@ pub record Leaves (p : Power) (stop save : Bool) (v : Unit) : Type 0 where
 
 -- "A tick with no command out ..", "never refused but for 3": then it is the drive's tick, whatever the marks, what waits and what is held.
 pub tick_does : (u : Unit) → well_formed u ≡ true → is_out u.out ≡ false
-    → ((outcome u tick).said ≡ plain Done) × (step u tick ≡ with_drive (ticked (largest_of u) u.drive) u)
+    → ((outcome u tick).said ≡ plain (Ok tt)) × (step u tick ≡ with_drive (ticked (largest_of u) u.drive) u)
 unfolding tick_outcome lowest
 tick_does u fine none = (rw fine, rw (step, fine, none))
 
@@ -56,12 +54,12 @@ tick_does u fine none = (rw fine, rw (step, fine, none))
 
 module _ (u : Unit) (host : ℕ) where
   -- "A read or write makes the unit Active, idle count 0; a write also sets the unsaved mark." The settings stay.
-  pub read_leaves : verdict_in (outcome u (read host)).said ≡ Clear
+  pub read_leaves : verdict_in (outcome u (read host)).said ≡ Ok tt
       → Leaves Active u.stopped u.unsaved (step u (read host)) × ((step u (read host)).drive.records ≡ u.drive.records)
   unfolding used
   read_leaves e = rw (acceptance_does u (read host) e).0 (record { power = refl; stopped = refl; unsaved = refl; idle = refl }, refl)
 
-  pub write_leaves : verdict_in (outcome u (write host)).said ≡ Clear
+  pub write_leaves : verdict_in (outcome u (write host)).said ≡ Ok tt
       → Leaves Active u.stopped true (step u (write host)) × ((step u (write host)).drive.records ≡ u.drive.records)
   unfolding used
   write_leaves e = rw (acceptance_does u (write host) e).0 (record { power = refl; stopped = refl; unsaved = refl; idle = refl }, refl)
@@ -70,46 +68,46 @@ module _ (u : Unit) (host : ℕ) where
 
 -- Accepted, each leaves the condition and the marks as they are: it is the drive's answer that changes them.
 module _ (u : Unit) (host : ℕ) where
-  pub accepted_leaves : (cdb : List ℕ) → verdict_in (outcome u (start_stop host cdb)).said ≡ Clear
+  pub accepted_leaves : (cdb : List ℕ) → verdict_in (outcome u (start_stop host cdb)).said ≡ Ok tt
       → Leaves u.drive.power u.stopped u.unsaved (step u (start_stop host cdb))
   accepted_leaves cdb e =
       let wants = start_wants u host cdb (sym (own_told u (start_stop host cdb)) ∙ e) in
       rw ((acceptance_does u (start_stop host cdb) e).0, wants.1) (record { power = refl; stopped = refl; unsaved = refl; idle = refl })
 
-  pub next_leaves : verdict_in (outcome u (next host)).said ≡ Clear → Leaves u.drive.power u.stopped u.unsaved (step u (next host))
+  pub next_leaves : verdict_in (outcome u (next host)).said ≡ Ok tt → Leaves u.drive.power u.stopped u.unsaved (step u (next host))
   next_leaves e = rw (acceptance_does u (next host) e).0 (record { power = refl; stopped = refl; unsaved = refl; idle = refl })
 
 -- ---- REQUEST SENSE
 
 -- A call that is not EPC, and has no effect where it is accepted, changes no record.
-still : (u : Unit) (c : Call) → (verdict_in (outcome u c).said ≡ Clear → effect u c ≡ u) → is_epc c ≡ false → step u c ≡ u
+still : (u : Unit) (c : Call) → (verdict_in (outcome u c).said ≡ Ok tt → effect u c ≡ u) → is_epc c ≡ false → step u c ≡ u
 still u c none other = on (verdict_in (outcome u c).said) refl
   where
     on : (v : Verdict) → verdict_in (outcome u c).said ≡ v → step u c ≡ u
-    on Clear e = (acceptance_does u c e).0 ∙ none e
-    on (Given r) e = other_keeps u c r e other
+    on (Ok _) e = (acceptance_does u c e).0 ∙ none e
+    on (Err r) e = other_keeps u c r e other
 
 module _ (u : Unit) (host : ℕ) (buffer : List ℕ) where
   -- Accepted, it drops what is held for the host and changes nothing else: the idle count too is as it was, whether a sense was told or not. The record
   -- is written out, so that no builder is taken at its word.
-  pub sense_leaves : verdict_in (outcome u (request_sense host buffer)).said ≡ Clear → step u (request_sense host buffer) ≡ record {
+  pub sense_leaves : verdict_in (outcome u (request_sense host buffer)).said ≡ Ok tt → step u (request_sense host buffer) ≡ record {
     edition = u.edition;
     drive = u.drive;
     stopped = u.stopped;
     unsaved = u.unsaved;
     slots = u.slots;
-    held = set u.held host (record { held = Nothing });
+    held = set u.held host None;
     out = u.out;
   }
   sense_leaves e = (acceptance_does u (request_sense host buffer) e).0
 
   -- One that finds nothing held, or is refused, changes no record.
-  pub poll_still : (verdict_in (outcome u (request_sense host buffer)).said ≡ Clear → held_of u.held host ≡ Nothing)
+  pub poll_still : (verdict_in (outcome u (request_sense host buffer)).said ≡ Ok tt → held_of u.held host ≡ None)
       → step u (request_sense host buffer) ≡ u
-  poll_still none = still u (request_sense host buffer) (λ e. rw (held_again u.held host Nothing (none e))) refl
+  poll_still none = still u (request_sense host buffer) (λ e. rw (held_again u.held host None (none e))) refl
 
   -- "else key 0 with the condition": whatever the marks, so of a unit that is still stopped too.
-  pub condition_told : verdict_in (outcome u (request_sense host buffer)).said ≡ Clear → held_of u.held host ≡ Nothing
+  pub condition_told : verdict_in (outcome u (request_sense host buffer)).said ≡ Ok tt → held_of u.held host ≡ None
       → (outcome u (request_sense host buffer)).buffer ≡ sense_bytes false (power_sense u.drive.power)
   condition_told e none = (acceptance_does u (request_sense host buffer) e).1 ∙ ap (told_bytes u.drive.power) none
 
@@ -117,7 +115,7 @@ module _ (u : Unit) (host : ℕ) (buffer : List ℕ) where
 
 -- What holds of the records as they are, and of those that an accepted subcommand leaves, holds after every call but a power-on.
 pub after_settings_lem : (u : Unit) (P : Call → List Record → Type 0) → ((c : Call) → P c u.drive.records)
-    → ((q : Registers) → lowest (epc_rows u q) ≡ Clear → P (set_features q) (performed q u.drive).records)
+    → ((q : Registers) → lowest (epc_rows u q) ≡ Ok tt → P (set_features q) (performed q u.drive).records)
     → (c : Call) → is_power_on c ≡ false → P c (step u c).drive.records
 after_settings_lem u P kept changed = after_every (λ c v. is_power_on c ≡ false → P c v.drive.records) u (record {
   none = λ c p. kept c;
@@ -159,18 +157,18 @@ new_page_still u number buffer = still u (new_page number buffer) (λ e. refl) r
 
 -- The first two are refused by 1 and 3 alone.
 pub log_read : (u : Unit) (buffer : List ℕ) → well_formed u ≡ true → length buffer ≡ 512
-    → ((outcome u (log_page buffer)).said ≡ plain Done) × ((outcome u (log_page buffer)).buffer ≡ log_bytes u.drive.records)
+    → ((outcome u (log_page buffer)).said ≡ plain (Ok tt)) × ((outcome u (log_page buffer)).buffer ≡ log_bytes u.drive.records)
 unfolding log_outcome lowest
 log_read u buffer fine long = (rw (eq-eqb (length buffer) 512 long, fine), rw (outcome, eq-eqb (length buffer) 512 long, fine))
 
 pub transitions_read : (u : Unit) (buffer : List ℕ) → well_formed u ≡ true → length buffer ≡ 52
-    → ((outcome u (transitions_page buffer)).said ≡ plain Done) × ((outcome u (transitions_page buffer)).buffer ≡ transition_bytes (counts_handed u))
+    → ((outcome u (transitions_page buffer)).said ≡ plain (Ok tt)) × ((outcome u (transitions_page buffer)).buffer ≡ transition_bytes (counts_handed u))
 unfolding transitions_outcome lowest
 transitions_read u buffer fine long = (rw (eq-eqb (length buffer) 52 long, fine), rw (outcome, eq-eqb (length buffer) 52 long, fine))
 
 -- A new page, by 1, 3 and 11 alone.
 pub new_page_read : (u : Unit) (number : ℕ) (buffer : List ℕ) → well_formed u ≡ true → length buffer ≡ 512 → lacks_page u.edition number ≡ false
-    → ((outcome u (new_page number buffer)).said ≡ plain Done) × ((outcome u (new_page number buffer)).buffer ≡ descriptor_page number u.drive.records)
+    → ((outcome u (new_page number buffer)).said ≡ plain (Ok tt)) × ((outcome u (new_page number buffer)).buffer ≡ descriptor_page number u.drive.records)
 unfolding new_page_outcome lowest
 new_page_read u number buffer fine long has =
     (rw (eq-eqb (length buffer) 512 long, fine, has), rw (outcome, eq-eqb (length buffer) 512 long, fine, has))

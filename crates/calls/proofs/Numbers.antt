@@ -1,5 +1,6 @@
 -- Document 01, "Numbers given back": a number is given exactly when its row applies and none before it does, over all calls.
 -- Each call's own rows are those of the table whose test is not `false` for it, so the lowest of both is the same.
+use Rattle.std.proofs.Common.{Ok, Err, Some, None, Option}
 use mathlib.Core.Path.{◌≡◌, refl, sym, ◌∙◌}
 use mathlib.Core.Bool.{Bool, true, false, cond, ◌&&◌, and-true, and-false, or-false, false≢true, true≢false}
 use mathlib.Core.List.{List}
@@ -16,31 +17,24 @@ use Rattle.outcomes.specs.Settled.{settled}
 use Rattle.readouts.specs.Readouts.{filled, sense_outcome, log_outcome, transitions_outcome, new_page_outcome}
 use Rattle.refusals.specs.declared.Refusal.{Refusal}
 use Rattle.refusals.specs.declared.Refusal.TheVariants.{BadRecord, HasNone, BadField, Aborted}
-use Rattle.refusals.specs.declared.Verdict.{Verdict}
-use Rattle.refusals.specs.declared.Verdict.TheVariants.{Clear, Given}
 use Rattle.requests.specs.declared.Target.{Target}
 use Rattle.unit.proofs.WellFormed.{unit_fine}
 use Rattle.cdb.proofs.Requests.{fitting, listed_fits}
 use Rattle.unit.specs.declared.Slot.{Slot}
 use Rattle.unit.specs.declared.Slot.TheVariants.{Empty, Waiting}
-use Rattle.unit.specs.declared.HostSlot.{HostSlot}
 use Rattle.requests.specs.declared.Request.{Request}
-use Rattle.unit.specs.declared.Out.{Out}
-use Rattle.unit.specs.declared.Out.TheVariants.{NoneOut, OutFor}
 use Rattle.unit.specs.declared.Unit.{Unit}
 use Rattle.operations.specs.Operations.{registers_of, due_from, is_flush, is_good, accepted_as}
 use Rattle.exchange.specs.Answered.{flushed_well, failed, succeeded, flush_answered, last_answered, answered_for}
 use Rattle.cdb.specs.Cdb.{immed, wanted, fits, request_for}
 use Rattle.bridge.specs.Bridge.{start_stop_rows, start_stop_settled, start_stop_outcome}
 use Rattle.exchange.specs.Exchange.{next_rows, next_effect, next_settled, next_outcome, answer_rows, answer_settled, answer_outcome}
-use Rattle.cdb.specs.declared.Wanted.{Wanted}
-use Rattle.cdb.specs.declared.Wanted.TheVariants.{Wants}
-use Rattle.operations.specs.declared.Next.TheVariants.{Send}
 use Rattle.requests.specs.declared.Reply.{Reply}
 use Rattle.exchange.specs.declared.Replied.{Replied}
 use Rattle.calls.specs.Calls.{Call, set_features, tick, read, write, power_on, hard_reset, soft_reset, start_stop, next, answer, request_sense, log_page, transitions_page, new_page, plain, accepted, sent, progressed, outcome, step}
 use Rattle.calls.specs.Table.{applies_to, is_epc, verdict_in, Numbers}
 use Rattle.calls.specs.Described.{own_rows, effect, lent, writes}
+use Rattle.refusals.specs.Refusals.{Verdict}
 
 -- ---- the rows of each call are the table's
 
@@ -67,15 +61,15 @@ waiting : (s : Slot) → is_waiting s ≡ true → (q : Request) × (s ≡ Waiti
 waiting Empty h = absurd (false≢true h)
 waiting (Waiting q) h = (q, refl)
 
-waiting_out : (slots : List HostSlot) (out : Out) (host : ℕ) → out_well_formed slots out ≡ true → is_out_for host out ≡ true
+waiting_out : (slots : List Slot) (out : Option ℕ) (host : ℕ) → out_well_formed slots out ≡ true → is_out_for host out ≡ true
     → is_waiting (slot_of slots host) ≡ true
-waiting_out slots NoneOut host w o = absurd (false≢true o)
-waiting_out slots (OutFor h) host w o = rw (eqb-true h host o) at w
+waiting_out slots None host w o = absurd (false≢true o)
+waiting_out slots (Some h) host w o = rw (eqb-true h host o) at w
 
-pub next_waiting : (u : Unit) (host : ℕ) → lowest (next_rows u host) ≡ Clear → (q : Request) × (slot_of u.slots host ≡ Waiting q)
+pub next_waiting : (u : Unit) (host : ℕ) → lowest (next_rows u host) ≡ Ok tt → (q : Request) × (slot_of u.slots host ≡ Waiting q)
 next_waiting u host h = waiting _ (not-false _ (not_applies (next_rows u host) HasNone h))
 
-pub answer_waiting : (u : Unit) (host : ℕ) → lowest (answer_rows u host) ≡ Clear → (q : Request) × (slot_of u.slots host ≡ Waiting q)
+pub answer_waiting : (u : Unit) (host : ℕ) → lowest (answer_rows u host) ≡ Ok tt → (q : Request) × (slot_of u.slots host ≡ Waiting q)
 answer_waiting u host h =
     waiting _
     (waiting_out u.slots u.out host ((unit_fine u).0 (not-false _ (not_applies (answer_rows u host) BadRecord h))).out
@@ -84,38 +78,38 @@ answer_waiting u host h =
 -- ---- each call says what its rows give
 
 settled_told : (u v : Unit) (given : Verdict) → verdict_in (plain (settled u v given).answer) ≡ given
-settled_told u v Clear = refl
-settled_told u v (Given r) = refl
+settled_told u v (Ok _) = refl
+settled_told u v (Err r) = refl
 
 epc_told : (u v : Unit) (given : Verdict) → verdict_in (plain (epc_settled u v given).answer) ≡ given
-epc_told u v Clear = refl
-epc_told u v (Given r) = refl
+epc_told u v (Ok _) = refl
+epc_told u v (Err r) = refl
 
 filled_told : (u v : Unit) (bytes buffer : List ℕ) (given : Verdict)
     → verdict_in (plain (filled u v bytes buffer given).called.answer) ≡ given
-filled_told u v bytes buffer Clear = refl
-filled_told u v bytes buffer (Given r) = refl
+filled_told u v bytes buffer (Ok _) = refl
+filled_told u v bytes buffer (Err r) = refl
 
-accepted_clear : (immediate : Bool) → verdict_in (accepted (accepted_as immediate)) ≡ Clear
+accepted_clear : (immediate : Bool) → verdict_in (accepted (Ok (accepted_as immediate))) ≡ Ok tt
 accepted_clear true = refl
 accepted_clear false = refl
 
-start_told : (u : Unit) (host : ℕ) (cdb : List ℕ) (w : Wanted) (given : Verdict)
+start_told : (u : Unit) (host : ℕ) (cdb : List ℕ) (w : Option Target) (given : Verdict)
     → verdict_in (accepted (start_stop_settled u host cdb w given).answer) ≡ given
-start_told u host cdb w Clear = accepted_clear (immed cdb)
-start_told u host cdb w (Given r) = refl
+start_told u host cdb w (Ok _) = accepted_clear (immed cdb)
+start_told u host cdb w (Err r) = refl
 
 next_told : (u : Unit) (host : ℕ) (given : Verdict) → lowest (next_rows u host) ≡ given
     → verdict_in (sent (next_settled u host given).answer) ≡ given
-next_told u host Clear e = rw (next_waiting u host e).1
-next_told u host (Given r) e = refl
+next_told u host (Ok _) e = rw (next_waiting u host e).1
+next_told u host (Err r) e = refl
 
-clear_either : (b : Bool) (x y : Replied) → verdict_in (progressed x.answer) ≡ Clear → verdict_in (progressed y.answer) ≡ Clear
-    → verdict_in (progressed (cond b x y).answer) ≡ Clear
+clear_either : (b : Bool) (x y : Replied) → verdict_in (progressed x.answer) ≡ Ok tt → verdict_in (progressed y.answer) ≡ Ok tt
+    → verdict_in (progressed (cond b x y).answer) ≡ Ok tt
 clear_either true x y p q = p
 clear_either false x y p q = q
 
-answered_clear : (u : Unit) (host : ℕ) (q : Request) (reply : Reply) → verdict_in (progressed (answered_for u host q reply).answer) ≡ Clear
+answered_clear : (u : Unit) (host : ℕ) (q : Request) (reply : Reply) → verdict_in (progressed (answered_for u host q reply).answer) ≡ Ok tt
 unfolding answered_for
 answered_clear u host q reply =
     clear_either (is_flush (due_from u.unsaved q)) (flush_answered u host q reply) (last_answered u host q reply)
@@ -124,8 +118,8 @@ answered_clear u host q reply =
 
 answer_told : (u : Unit) (host : ℕ) (reply : Reply) (given : Verdict) → lowest (answer_rows u host) ≡ given
     → verdict_in (progressed (answer_settled u host reply given).answer) ≡ given
-answer_told u host reply Clear e = rw (answer_waiting u host e).1 (answered_clear u host (answer_waiting u host e).0 reply)
-answer_told u host reply (Given r) e = refl
+answer_told u host reply (Ok _) e = rw (answer_waiting u host e).1 (answered_clear u host (answer_waiting u host e).0 reply)
+answer_told u host reply (Err r) e = refl
 
 -- What a call says is the verdict of its own rows.
 pub own_told : (u : Unit) (c : Call) → verdict_in (outcome u c).said ≡ lowest (own_rows u c)
@@ -151,11 +145,11 @@ told u c = own_told u c ∙ own_rows_lem u c
 
 module _ (u : Unit) (c : Call) where
   -- "The lowest number that applies is given": a call is refused with r exactly when r's row applies to it and the row of none of lower rank does.
-  pub refused_exactly : (r : Refusal) → verdict_in (outcome u c).said ≡ Given r ↔ IsLowest (applies_to u c) r
+  pub refused_exactly : (r : Refusal) → verdict_in (outcome u c).said ≡ Err r ↔ IsLowest (applies_to u c) r
   refused_exactly r = rw (told u c) (given_exactly (applies_to u c) r)
 
   -- A call is accepted exactly when no row applies to it.
-  pub accepted_exactly : verdict_in (outcome u c).said ≡ Clear ↔ ((q : Refusal) → applies_to u c q ≡ false)
+  pub accepted_exactly : verdict_in (outcome u c).said ≡ Ok tt ↔ ((q : Refusal) → applies_to u c q ≡ false)
   accepted_exactly = rw (told u c) (clear_exactly (applies_to u c))
 
 -- The layer gives the numbers of the table.
@@ -163,7 +157,7 @@ pub numbers_given : Numbers outcome
 numbers_given = refused_exactly
 
 -- "3: record not well formed": an accepted call stood on a well-formed record.
-pub accepted_well_formed : (u : Unit) (c : Call) → verdict_in (outcome u c).said ≡ Clear → well_formed u ≡ true
+pub accepted_well_formed : (u : Unit) (c : Call) → verdict_in (outcome u c).said ≡ Ok tt → well_formed u ≡ true
 accepted_well_formed u c h = not-false _ ((accepted_exactly u c).0 h BadRecord)
 
 -- ---- what a call leaves
@@ -185,7 +179,7 @@ ten_is_epc u (log_page buffer) other = refl
 ten_is_epc u (transitions_page buffer) other = refl
 ten_is_epc u (new_page number buffer) other = refl
 
-own_kept : (u : Unit) (c : Call) (r : Refusal) → lowest (own_rows u c) ≡ Given r
+own_kept : (u : Unit) (c : Call) (r : Refusal) → lowest (own_rows u c) ≡ Err r
     → (step u c ≡ cond (is_epc c && is_same r Aborted) (rested u) u) × ((outcome u c).buffer ≡ lent c)
 unfolding epc_outcome tick_outcome read_outcome write_outcome power_on_outcome reset_outcome sense_outcome log_outcome transitions_outcome new_page_outcome start_stop_outcome next_outcome answer_outcome
 own_kept u (set_features q) r e = (rw (e, step), refl)
@@ -204,28 +198,28 @@ own_kept u (transitions_page buffer) r e = (rw (e, step), rw (e, outcome))
 own_kept u (new_page number buffer) r e = (rw (e, step), rw (e, outcome))
 
 -- What holds of the record as it came, and with its idle count restarted, holds after every refusal.
-pub after_refusal : (u : Unit) (c : Call) (r : Refusal) (P : Unit → Type 0) → P (rested u) → P u → verdict_in (outcome u c).said ≡ Given r
+pub after_refusal : (u : Unit) (c : Call) (r : Refusal) (P : Unit → Type 0) → P (rested u) → P u → verdict_in (outcome u c).said ≡ Err r
     → P (step u c)
 after_refusal u c r P rests stays h =
     rw (own_kept u c r (sym (own_told u c) ∙ h)).0 (either P (is_epc c && is_same r Aborted) (rested u) u rests stays)
 
 -- "A refusal writes to no buffer".
-pub refusal_writes_nothing : (u : Unit) (c : Call) (r : Refusal) → verdict_in (outcome u c).said ≡ Given r → (outcome u c).buffer ≡ lent c
+pub refusal_writes_nothing : (u : Unit) (c : Call) (r : Refusal) → verdict_in (outcome u c).said ≡ Err r → (outcome u c).buffer ≡ lent c
 refusal_writes_nothing u c r h = (own_kept u c r (sym (own_told u c) ∙ h)).1
 
 -- "and returns the record as it came": every number but 10,
-pub refusal_keeps : (u : Unit) (c : Call) (r : Refusal) → verdict_in (outcome u c).said ≡ Given r → is_same r Aborted ≡ false → step u c ≡ u
+pub refusal_keeps : (u : Unit) (c : Call) (r : Refusal) → verdict_in (outcome u c).said ≡ Err r → is_same r Aborted ≡ false → step u c ≡ u
 refusal_keeps u c r h other = (own_kept u c r (sym (own_told u c) ∙ h)).0 ∙ rw (other, and-false (is_epc c))
 
 -- and every call but EPC.
-pub other_keeps : (u : Unit) (c : Call) (r : Refusal) → verdict_in (outcome u c).said ≡ Given r → is_epc c ≡ false → step u c ≡ u
+pub other_keeps : (u : Unit) (c : Call) (r : Refusal) → verdict_in (outcome u c).said ≡ Err r → is_epc c ≡ false → step u c ≡ u
 other_keeps u c r h other = (own_kept u c r (sym (own_told u c) ∙ h)).0 ∙ rw other
 
 -- "10 differs only in idle count 0": it is given to EPC alone.
-pub abort_rests : (u : Unit) (c : Call) → verdict_in (outcome u c).said ≡ Given Aborted → (is_epc c ≡ true) × (step u c ≡ rested u)
+pub abort_rests : (u : Unit) (c : Call) → verdict_in (outcome u c).said ≡ Err Aborted → (is_epc c ≡ true) × (step u c ≡ rested u)
 abort_rests u c h = on (is_epc c) refl
   where
-    given : lowest (own_rows u c) ≡ Given Aborted
+    given : lowest (own_rows u c) ≡ Err Aborted
     given = sym (own_told u c) ∙ h
 
     on : (b : Bool) → is_epc c ≡ b → (is_epc c ≡ true) × (step u c ≡ rested u)
@@ -233,7 +227,7 @@ abort_rests u c h = on (is_epc c) refl
     on false e = absurd (not_given (own_rows u c) Aborted (ten_is_epc u c e) given)
 
 -- Where none of its rows applies, a call leaves its effect, and in the buffer what it writes.
-pub own_effect : (u : Unit) (c : Call) → lowest (own_rows u c) ≡ Clear → (step u c ≡ effect u c) × ((outcome u c).buffer ≡ writes u c)
+pub own_effect : (u : Unit) (c : Call) → lowest (own_rows u c) ≡ Ok tt → (step u c ≡ effect u c) × ((outcome u c).buffer ≡ writes u c)
 unfolding epc_outcome tick_outcome read_outcome write_outcome power_on_outcome reset_outcome sense_outcome log_outcome transitions_outcome new_page_outcome start_stop_outcome next_outcome answer_outcome
 own_effect u (set_features q) e = (rw (e, step), refl)
 own_effect u tick e = (rw (e, step), refl)
@@ -251,34 +245,34 @@ own_effect u (transitions_page buffer) e = (rw (e, step), rw (e, outcome))
 own_effect u (new_page number buffer) e = (rw (e, step), rw (e, outcome))
 
 -- An accepted call leaves its effect.
-pub acceptance_does : (u : Unit) (c : Call) → verdict_in (outcome u c).said ≡ Clear
+pub acceptance_does : (u : Unit) (c : Call) → verdict_in (outcome u c).said ≡ Ok tt
     → (step u c ≡ effect u c) × ((outcome u c).buffer ≡ writes u c)
 acceptance_does u c h = own_effect u c (sym (own_told u c) ∙ h)
 
 -- ---- what an accepted call of START STOP UNIT says and leaves, whole
 
 -- The CDB asks for a target that fits the unit.
-pub start_wants : (u : Unit) (host : ℕ) (cdb : List ℕ) → lowest (start_stop_rows u host cdb) ≡ Clear
-    → (t : Target) × (wanted cdb ≡ Wants t) × (fits u.drive.records (Wants t) ≡ true)
+pub start_wants : (u : Unit) (host : ℕ) (cdb : List ℕ) → lowest (start_stop_rows u host cdb) ≡ Ok tt
+    → (t : Target) × (wanted cdb ≡ Some t) × (fits u.drive.records (Some t) ≡ true)
 start_wants u host cdb h =
     fitting u.drive.records (wanted cdb)
     (listed_fits u.drive.records cdb (not-false _ (not_applies (start_stop_rows u host cdb) BadField h)))
 
 -- Its operation waits in the host's slot.
-pub start_accepted : (u : Unit) (host : ℕ) (cdb : List ℕ) (t : Target) → lowest (start_stop_rows u host cdb) ≡ Clear → wanted cdb ≡ Wants t
+pub start_accepted : (u : Unit) (host : ℕ) (cdb : List ℕ) (t : Target) → lowest (start_stop_rows u host cdb) ≡ Ok tt → wanted cdb ≡ Some t
     → start_stop_outcome u host cdb
-    ≡ record { answer = accepted_as (immed cdb); unit = with_slot host (Waiting (request_for t cdb)) (rested u) }
+    ≡ record { answer = Ok (accepted_as (immed cdb)); unit = with_slot host (Waiting (request_for t cdb)) (rested u) }
 unfolding start_stop_outcome
 start_accepted u host cdb t h e = rw (h, e)
 
 -- The waiting operation's command that is due is sent, and is out.
-pub next_accepted : (u : Unit) (host : ℕ) (q : Request) → lowest (next_rows u host) ≡ Clear → slot_of u.slots host ≡ Waiting q
-    → next_outcome u host ≡ record { answer = Send (registers_of (due_from u.unsaved q)); unit = next_effect host u }
+pub next_accepted : (u : Unit) (host : ℕ) (q : Request) → lowest (next_rows u host) ≡ Ok tt → slot_of u.slots host ≡ Waiting q
+    → next_outcome u host ≡ record { answer = Ok (registers_of (due_from u.unsaved q)); unit = next_effect host u }
 unfolding next_outcome
 next_accepted u host q h e = rw (h, e)
 
 -- The answer goes to the waiting operation.
-pub answer_accepted : (u : Unit) (host : ℕ) (reply : Reply) (q : Request) → lowest (answer_rows u host) ≡ Clear
+pub answer_accepted : (u : Unit) (host : ℕ) (reply : Reply) (q : Request) → lowest (answer_rows u host) ≡ Ok tt
     → slot_of u.slots host ≡ Waiting q → answer_outcome u host reply ≡ answered_for u host q reply
 unfolding answer_outcome
 answer_accepted u host reply q h e = rw (h, e)

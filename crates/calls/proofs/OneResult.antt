@@ -21,6 +21,9 @@ use Rattle.readouts.proofs.transitions_page.Reads as transitions-page
 use Rattle.readouts.proofs.transition_counts.Reads as transition-counts
 use Rattle.reader.proofs.page_record.Reads as page-record
 use Rattle.reader.proofs.page_faults.Reads as page-faults
+use Rattle.reader.proofs.open_page.Reads as open-page
+use Rattle.reader.proofs.read_record.Reads as read-record
+use Rattle.reader.proofs.read_faults.Reads as read-faults
 use Rattle.faults.proofs.kind_number.Reads as kind-number
 use Rattle.faults.proofs.listed_count.Reads as listed-count
 use Rattle.conditions.proofs.place_of.Reads as place_of
@@ -112,7 +115,16 @@ one_transition_counts = (λ κs a. tt, λ κs a x y s t. same)
 pub one_new_page : AsksNothing new-page.Asked × OneResult new-page.Post × OneBuffer new-page.Post (λ κs s. s.1.1.0.now)
 one_new_page = (λ κs a. tt, λ κs a x y s t p q. same p.0 q.0, λ κs a x y s t p q. same p.1 q.1)
 
--- ---- document 02, request (v); of the three functions on a reader: reader/proofs/OneResult.antt
+-- ---- document 02, request (v)
+
+pub one_open_page : AsksNothing open-page.Asked × OneResult open-page.Post
+one_open_page = (λ κs a. tt, λ κs a x y s t p q. λ i. record { page = same p.0 q.0 i; place = same p.1 q.1 i })
+
+pub one_read_record : AsksNothing read-record.Asked × OneResult read-record.Post
+one_read_record = (λ κs a. tt, λ κs a x y s t. same)
+
+pub one_read_faults : AsksNothing read-faults.Asked × OneResult read-faults.Post
+one_read_faults = (λ κs a. tt, λ κs a x y s t. same)
 
 pub one_page_record : AsksNothing page-record.Asked × OneResult page-record.Post
 one_page_record = (λ κs a. tt, λ κs a x y s t. same)

@@ -1,17 +1,17 @@
 -- While a command is out, the operation that sent it stands still: a call that would change its slot, the unsaved mark or what is out is refused
 -- with 4 at the latest. So the command that an answer is judged by is the one that was sent.
+use Rattle.std.proofs.Common.{Ok, Err}
 use mathlib.Core.Path.{◌≡◌, refl, sym, ◌∙◌}
 use mathlib.Core.Bool.{Bool, true, false, ◌&&◌, ◌||◌, true≢false}
 use Rattle.unit.specs.Units.{is_out}
 use Rattle.refusals.specs.declared.Refusal.{Refusal}
 use Rattle.refusals.specs.declared.Refusal.TheVariants.{CommandOut}
-use Rattle.refusals.specs.declared.Verdict.{Verdict}
-use Rattle.refusals.specs.declared.Verdict.TheVariants.{Clear, Given}
 use Rattle.unit.specs.declared.Unit.{Unit}
 use Rattle.calls.specs.Calls.{Call, set_features, tick, read, write, power_on, hard_reset, soft_reset, start_stop, next, answer, request_sense, log_page, transitions_page, new_page, outcome, step}
 use Rattle.calls.specs.Described.{is_reset, is_answer_for}
 use Rattle.calls.specs.Table.{waits_for_drive, verdict_in}
 use Rattle.calls.proofs.Numbers.{accepted_exactly, after_refusal, other_keeps, acceptance_does}
+use Rattle.refusals.specs.Refusals.{Verdict}
 
 -- What decides the command due from every operation, and whose command is out.
 pub record SameOperations (u v : Unit) : Type 0 where
@@ -22,7 +22,7 @@ pub record SameOperations (u v : Unit) : Type 0 where
 same : (u : Unit) → SameOperations u u
 same u = record { slots = refl; unsaved = refl; out = refl }
 
-after_refused : (u : Unit) (c : Call) (r : Refusal) → verdict_in (outcome u c).said ≡ Given r → SameOperations u (step u c)
+after_refused : (u : Unit) (c : Call) (r : Refusal) → verdict_in (outcome u c).said ≡ Err r → SameOperations u (step u c)
 after_refused u c r = after_refusal u c r (SameOperations u) (record { slots = refl; unsaved = refl; out = refl }) (same u)
 
 module _ (u : Unit) (c : Call) where
@@ -31,23 +31,23 @@ module _ (u : Unit) (c : Call) where
   out_refuses out waits = on (verdict_in (outcome u c).said) refl
     where
       on : (v : Verdict) → verdict_in (outcome u c).said ≡ v → SameOperations u (step u c)
-      on Clear e =
+      on (Ok _) e =
           let no : (is_out u.out && waits_for_drive c) ≡ false = (accepted_exactly u c).0 e CommandOut in
           absurd (true≢false (sym (rw (out, waits)) ∙ no))
-      on (Given r) e = after_refused u c r e
+      on (Err r) e = after_refused u c r e
 
 -- The calls that may end or take what is out: the answer and the resets.
 abbrev pub may_end : Call → Bool
 may_end c = is_reset c || is_answer_for (λ host. true) c
 
 module _ (u : Unit) (c : Call) (effect : Unit) (kept : SameOperations u effect)
-    (does : verdict_in (outcome u c).said ≡ Clear → step u c ≡ effect) where
+    (does : verdict_in (outcome u c).said ≡ Ok tt → step u c ≡ effect) where
   kept_anyway : SameOperations u (step u c)
   kept_anyway = on (verdict_in (outcome u c).said) refl
     where
       on : (v : Verdict) → verdict_in (outcome u c).said ≡ v → SameOperations u (step u c)
-      on Clear e = rw (does e) kept
-      on (Given r) e = after_refused u c r e
+      on (Ok _) e = rw (does e) kept
+      on (Err r) e = after_refused u c r e
 
 -- While a command is out no call but an answer or a reset changes a slot, the unsaved mark or what is out.
 pub out_stands : (u : Unit) (c : Call) → is_out u.out ≡ true → may_end c ≡ false → SameOperations u (step u c)
@@ -73,5 +73,5 @@ pub tick_out : (u : Unit) → is_out u.out ≡ true → step u tick ≡ u
 tick_out u out = on (verdict_in (outcome u tick).said) refl
   where
     on : (v : Verdict) → verdict_in (outcome u tick).said ≡ v → step u tick ≡ u
-    on Clear e = (acceptance_does u tick e).0 ∙ rw out
-    on (Given r) e = other_keeps u tick r e refl
+    on (Ok _) e = (acceptance_does u tick e).0 ∙ rw out
+    on (Err r) e = other_keeps u tick r e refl

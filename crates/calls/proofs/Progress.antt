@@ -1,5 +1,6 @@
 -- A waiting operation with nothing out always gets a command, and every answer to it ends it or counts one flush and clears the unsaved mark.
 -- The mark is set again only by an accepted write, so without one the next command is the last, and its answer ends the operation.
+use Rattle.std.proofs.Common.{Ok, Err, Some, None}
 use mathlib.Core.Path.{◌≡◌, refl, ap, sym, ◌∙◌}
 use mathlib.Core.Bool.{Bool, true, false, not, ◌&&◌, ◌||◌, cond, true≢false}
 use mathlib.Core.List.{List, [], ◌∷◌}
@@ -12,7 +13,7 @@ use borrow.Author.Tests.{ltb-true, ltb-false, le-ltb, eqb-false, eq-eqb, ne_eqb,
 use Rattle.rows.specs.Rows.{every_at}
 use Rattle.rows.proofs.Places.{and_left, and_right}
 use Rattle.rows.proofs.Choices.{either}
-use Rattle.unit.specs.Units.{empty_slot, slot_of, is_waiting, well_formed}
+use Rattle.unit.specs.Units.{slot_of, is_waiting, well_formed}
 use Rattle.refusals.specs.Refusals.{lowest}
 use Rattle.outcomes.specs.Settled.{settled}
 use Rattle.engine.specs.Engine.{medium_rows, write_effect, write_outcome}
@@ -21,11 +22,6 @@ use Rattle.requests.specs.declared.Target.TheVariants.{Stop, Start, GoTo}
 use Rattle.requests.specs.declared.Stage.TheVariants.{Straight, Flushing}
 use Rattle.requests.specs.declared.Request.{Request}
 use Rattle.unit.specs.declared.Slot.TheVariants.{Empty, Waiting}
-use Rattle.unit.specs.declared.HostSlot.{HostSlot}
-use Rattle.unit.specs.declared.Out.TheVariants.{NoneOut, OutFor}
-use Rattle.refusals.specs.declared.Verdict.{Verdict}
-use Rattle.refusals.specs.declared.Verdict.TheVariants.{Clear, Given}
-use Rattle.refusals.specs.declared.Answer.TheVariants.{Done}
 use Rattle.unit.specs.declared.Unit.{Unit}
 use Rattle.operations.specs.Operations.{registers_of, last_of, due_from, is_flush, one_more, flushes_of, flush_counted, is_good}
 use Rattle.exchange.specs.Answered.{flushed_well, failed, succeeded, flush_answered, last_answered, answered_for}
@@ -34,7 +30,6 @@ use Rattle.exchange.specs.Exchange.{next_rows, next_outcome, answer_rows, answer
 use Rattle.operations.specs.declared.Due.{Due}
 use Rattle.requests.specs.declared.Reply.{Reply}
 use Rattle.operations.specs.declared.Report.{Report}
-use Rattle.operations.specs.declared.Next.TheVariants.{Send}
 use Rattle.operations.specs.declared.Progress.TheVariants.{More, Ended}
 use Rattle.exchange.specs.declared.Replied.{Replied}
 use Rattle.calls.specs.Calls.{Call, set_features, tick, read, write, power_on, hard_reset, soft_reset, start_stop, next, answer, request_sense, log_page, transitions_page, new_page, Said, plain, outcome, step, run, Event, history}
@@ -46,13 +41,15 @@ use Rattle.calls.proofs.Steps.{after_every}
 use Rattle.unit.proofs.Hosts.{own_slot, other_slot}
 use Rattle.unit.proofs.WellFormed.{unit_fine}
 use Rattle.calls.proofs.WellFormed.{well_formed_kept, run_well_formed}
+use Rattle.refusals.specs.Refusals.{Verdict}
+use Rattle.unit.specs.declared.Slot.{Slot}
 
 -- ---- asking for the next command
 
 -- The host is given the command that is due from its operation; that command is then out, and the slots and the unsaved mark stay.
 pub record Sends (u : Unit) (host : ℕ) (q : Request) : Type 0 where
-  pub answer : (next_outcome u host).answer ≡ Send (registers_of (due_from u.unsaved q))
-  pub out : (next_outcome u host).unit.out ≡ OutFor host
+  pub answer : (next_outcome u host).answer ≡ Ok (registers_of (due_from u.unsaved q))
+  pub out : (next_outcome u host).unit.out ≡ Some host
   pub slots : (next_outcome u host).unit.slots ≡ u.slots
   pub unsaved : (next_outcome u host).unit.unsaved ≡ u.unsaved
 
@@ -68,16 +65,16 @@ module _ (u : Unit) (fine : well_formed u ≡ true) (host : ℕ) (q : Request) (
       on true e = ltb-true host 4 e
       on false e =
           let past : length u.slots ≤ host = omega (arith, four, ltb-false host 4 e) in
-          let empty : Empty ≡ Waiting q = sym (ap (λ (s : HostSlot). s.slot) (get_or-eq_default u.slots empty_slot past)) ∙ waiting in
+          let empty : Empty ≡ Waiting q = sym (get_or-eq_default u.slots Empty past) ∙ waiting in
           let no : ◌≡◌ {A = ℕ} 0 1 = cc in
           absurd (omega arith)
 
-  pub next_clear : u.out ≡ NoneOut → lowest (next_rows u host) ≡ Clear
+  pub next_clear : u.out ≡ None → lowest (next_rows u host) ≡ Ok tt
   unfolding lowest
   next_clear none = rw (le-ltb 3 host (omega (arith, host_below)), fine, none, waiting)
 
   -- A waiting operation with nothing out always gets its command.
-  pub next_sends : u.out ≡ NoneOut → Sends u host q
+  pub next_sends : u.out ≡ None → Sends u host q
   unfolding next_outcome
   next_sends none = record {
     answer = rw (next_clear none, waiting);
@@ -86,11 +83,11 @@ module _ (u : Unit) (fine : well_formed u ≡ true) (host : ℕ) (q : Request) (
     unsaved = rw (next_clear none, waiting);
   }
 
-  pub answer_clear : u.out ≡ OutFor host → lowest (answer_rows u host) ≡ Clear
+  pub answer_clear : u.out ≡ Some host → lowest (answer_rows u host) ≡ Ok tt
   unfolding lowest
   answer_clear out = rw (le-ltb 3 host (omega (arith, host_below)), fine, out, eq-eqb host host refl)
 
-  pub answer_taken : u.out ≡ OutFor host → (reply : Reply) → answer_outcome u host reply ≡ answered_for u host q reply
+  pub answer_taken : u.out ≡ Some host → (reply : Reply) → answer_outcome u host reply ≡ answered_for u host q reply
   unfolding answer_outcome
   answer_taken out reply = rw (answer_clear out, waiting)
 
@@ -110,16 +107,16 @@ last_answered_lem u host q reply f = rw f
 -- The operation is over: the answer says so, with its report, and the slot is empty. Nothing is out.
 pub record Over (host : ℕ) (r : Replied) : Type 0 where
   pub report : Report
-  pub answer : r.answer ≡ Ended report
+  pub answer : r.answer ≡ Ok (Ended report)
   pub slot : slot_of r.unit.slots host ≡ Empty
-  pub out : r.unit.out ≡ NoneOut
+  pub out : r.unit.out ≡ None
 
 -- The operation goes on with one more flush counted, and what was written is saved. Nothing is out.
 pub record Counted (host : ℕ) (q : Request) (r : Replied) : Type 0 where
-  pub answer : r.answer ≡ More
+  pub answer : r.answer ≡ Ok More
   pub slot : slot_of r.unit.slots host ≡ Waiting (flush_counted q)
   pub unsaved : r.unit.unsaved ≡ false
-  pub out : r.unit.out ≡ NoneOut
+  pub out : r.unit.out ≡ None
 
 module _ (u : Unit) (host : ℕ) (q : Request) (inside : host < length u.slots) where
   failed_over : (n : ℕ) → Over host (failed u host q n)
@@ -127,7 +124,7 @@ module _ (u : Unit) (host : ℕ) (q : Request) (inside : host < length u.slots) 
     report = _;
     answer = refl;
     slot = either (λ (v : Unit). slot_of v.slots host ≡ Empty) q.immed _ _ (own_slot u.slots host Empty inside) (own_slot u.slots host Empty inside);
-    out = either (λ (v : Unit). v.out ≡ NoneOut) q.immed _ _ refl refl;
+    out = either (λ (v : Unit). v.out ≡ None) q.immed _ _ refl refl;
   }
 
   succeeded_over : Over host (succeeded u host q)
@@ -146,7 +143,7 @@ last_no_flush Start = refl
 last_no_flush (GoTo c) = refl
 
 module _ (u : Unit) (fine : well_formed u ≡ true) (host : ℕ) (q : Request) (waiting : slot_of u.slots host ≡ Waiting q)
-    (out : u.out ≡ OutFor host) (reply : Reply) where
+    (out : u.out ≡ Some host) (reply : Reply) where
   inside : host < length u.slots
   inside = omega (arith, host_below u fine host q waiting, ((unit_fine u).0 fine).slots)
 
@@ -208,7 +205,7 @@ module _ (u : Unit) (saved : u.unsaved ≡ false) where
     epc = λ q e n. saved;
     ticks = λ e n. saved;
     reads = λ host n. saved;
-    writes = λ host n. absurd (true≢false (n (plain Done)));
+    writes = λ host n. absurd (true≢false (n (plain (Ok tt))));
     powers_on = λ n. refl;
     resets_hard = λ n. saved;
     resets_soft = λ n. saved;
@@ -230,8 +227,8 @@ module _ (u : Unit) (saved : u.unsaved ≡ false) where
   saved_kept (write host) n = on (lowest (medium_rows u host)) n
     where
       on : (v : Verdict) → is_clear (verdict_in (plain (settled u (write_effect u) v).answer)) ≡ false → (settled u (write_effect u) v).unit.unsaved ≡ false
-      on Clear n = absurd (true≢false n)
-      on (Given r) n = saved
+      on (Ok _) n = absurd (true≢false n)
+      on (Err r) n = saved
   saved_kept power_on n = saved_unless power_on (λ said. refl)
   saved_kept hard_reset n = saved_unless hard_reset (λ said. refl)
   saved_kept soft_reset n = saved_unless soft_reset (λ said. refl)
@@ -265,7 +262,7 @@ waiting_kept u c k q waiting = after_every (λ c v. moves_on k c ≡ false → s
   tells = λ host buffer n. waiting;
 }) c
   where
-    not_own : (host : ℕ) (cdb : List ℕ) → lowest (start_stop_rows u host cdb) ≡ Clear → k ≡ host → ⊥
+    not_own : (host : ℕ) (cdb : List ℕ) → lowest (start_stop_rows u host cdb) ≡ Ok tt → k ≡ host → ⊥
     not_own host cdb clear e =
         let none : is_waiting (slot_of u.slots host) ≡ false = not_applies (start_stop_rows u host cdb) OwnWaiting clear in
         true≢false (rw (← e, waiting) at none)
@@ -297,29 +294,29 @@ run_saved u (c ∷ cs) at saved h =
 
 -- Asked for, the command is the last one of the operation, and the answer to it ends the operation.
 pub record EndsNext (u : Unit) (host : ℕ) (t : Target) (reply : Reply) : Type 0 where
-  pub sends : (next_outcome u host).answer ≡ Send (registers_of (last_of t))
+  pub sends : (next_outcome u host).answer ≡ Ok (registers_of (last_of t))
   pub over : Over host (answer_outcome (step u (next host)) host reply)
 
 module _ (u : Unit) (fine : well_formed u ≡ true) (host : ℕ) (q : Request) (waiting : slot_of u.slots host ≡ Waiting q) where
   -- the unit after the host has asked, with its command out
-  still_waiting : u.out ≡ NoneOut → slot_of (step u (next host)).slots host ≡ Waiting q
-  still_waiting none = ap (λ (l : List HostSlot). slot_of l host) (next_sends u fine host q waiting none).slots ∙ waiting
+  still_waiting : u.out ≡ None → slot_of (step u (next host)).slots host ≡ Waiting q
+  still_waiting none = ap (λ (l : List Slot). slot_of l host) (next_sends u fine host q waiting none).slots ∙ waiting
 
-  ends_next : u.out ≡ NoneOut → due_from u.unsaved q ≡ last_of q.target → (reply : Reply) → EndsNext u host q.target reply
+  ends_next : u.out ≡ None → due_from u.unsaved q ≡ last_of q.target → (reply : Reply) → EndsNext u host q.target reply
   ends_next none last reply =
       let s = next_sends u fine host q waiting none in
       let still-last = ap (λ (b : Bool). due_from b q) s.unsaved ∙ last in
       record {
-        sends = s.answer ∙ ap (λ (d : Due). Send (registers_of d)) last;
+        sends = s.answer ∙ ap (λ (d : Due). Ok (registers_of d)) last;
         over = last_ends (step u (next host)) (well_formed_kept u (next host) fine) host q (still_waiting none) s.out reply still-last;
       }
 
   -- An operation that sends no flush ends with its first answer.
-  pub straight_ends : u.out ≡ NoneOut → q.stage ≡ Straight → (reply : Reply) → EndsNext u host q.target reply
+  pub straight_ends : u.out ≡ None → q.stage ≡ Straight → (reply : Reply) → EndsNext u host q.target reply
   straight_ends none e = ends_next none (straight_due u.unsaved q e)
 
   -- One that flushes ends with the next answer once a flush is answered and nothing is unsaved.
-  pub flushed_ends : u.out ≡ NoneOut → u.unsaved ≡ false → (n : ℕ) → q.stage ≡ Flushing (suc n) → (reply : Reply)
+  pub flushed_ends : u.out ≡ None → u.unsaved ≡ false → (n : ℕ) → q.stage ≡ Flushing (suc n) → (reply : Reply)
       → EndsNext u host q.target reply
   flushed_ends none saved n e = ends_next none (flushed_due u.unsaved q n saved e)
 
@@ -336,8 +333,8 @@ module _ (u : Unit) (fine : well_formed u ≡ true) (host : ℕ) (q : Request) (
       )
 
   -- Of two answers to an operation with no accepted write between, the first or the second ends it.
-  pub second_ends : u.out ≡ OutFor host → (first second : Reply) (mid : List Call) → let w = run (step u (answer host first)) mid in
-      every_at (leaves host) 0 mid ≡ true → every_at keeps_saved 0 (history (step u (answer host first)) mid) ≡ true → w.out ≡ OutFor host
+  pub second_ends : u.out ≡ Some host → (first second : Reply) (mid : List Call) → let w = run (step u (answer host first)) mid in
+      every_at (leaves host) 0 mid ≡ true → every_at keeps_saved 0 (history (step u (answer host first)) mid) ≡ true → w.out ≡ Some host
       → Over host (answer_outcome u host first) ⊎ Over host (answer_outcome w host second)
   second_ends out first second mid left kept out-again =
       ⊎_elim inl
@@ -346,9 +343,9 @@ module _ (u : Unit) (fine : well_formed u ≡ true) (host : ℕ) (q : Request) (
 
 -- A waiting operation with nothing out, asked and answered, is over; or, after any calls but a reset, an answer to it or an accepted write, and
 -- with nothing out, it is given its last command and is over with the answer: it ends by its second answer.
-pub ends_by_second : (u : Unit) → well_formed u ≡ true → (host : ℕ) (q : Request) → slot_of u.slots host ≡ Waiting q → u.out ≡ NoneOut
+pub ends_by_second : (u : Unit) → well_formed u ≡ true → (host : ℕ) (q : Request) → slot_of u.slots host ≡ Waiting q → u.out ≡ None
     → (first second : Reply) (mid : List Call) → let asked = step u (next host) in let w = run (step asked (answer host first)) mid in
-    every_at (leaves host) 0 mid ≡ true → every_at keeps_saved 0 (history (step asked (answer host first)) mid) ≡ true → w.out ≡ NoneOut
+    every_at (leaves host) 0 mid ≡ true → every_at keeps_saved 0 (history (step asked (answer host first)) mid) ≡ true → w.out ≡ None
     → Over host (answer_outcome asked host first) ⊎ EndsNext w host q.target second
 ends_by_second u fine host q waiting none first second mid left kept none-again =
     let asked = step u (next host) in

@@ -1,5 +1,6 @@
 -- Document 02, request (iv), over calls: when a subcommand with FFh is accepted, and what becomes of each condition; and that no call but a power-on
 -- changes one that is not changeable. It is what epc/Selected says of the drive, said of the unit.
+use Rattle.std.proofs.Common.{Ok, Err}
 use mathlib.Core.Path.{◌≡◌, refl, sym, ◌∙◌}
 use mathlib.Core.Bool.{Bool, true, false, ◌&&◌, true≢false}
 use mathlib.Core.Logic.{◌↔◌}
@@ -21,8 +22,6 @@ use Rattle.epc.proofs.Exactly.{Reads}
 use Rattle.epc.proofs.Selected.{EveryFits, every_exactly, alone, as_alone, alone_aborts, others_spared, unchangeable_stays}
 use Rattle.refusals.proofs.Lowest.{not_applies}
 use Rattle.refusals.specs.declared.Refusal.TheVariants.{Aborted}
-use Rattle.refusals.specs.declared.Verdict.{Verdict}
-use Rattle.refusals.specs.declared.Verdict.TheVariants.{Clear, Given}
 use Rattle.unit.specs.Units.{is_out, well_formed, largest_of}
 use Rattle.unit.specs.declared.Unit.{Unit}
 use Rattle.unit.proofs.WellFormed.{unit_fine}
@@ -33,6 +32,7 @@ use Rattle.calls.specs.Table.{verdict_in}
 use Rattle.calls.proofs.Leaves.{after_settings_lem}
 use Rattle.calls.proofs.Numbers.{acceptance_does, after_refusal}
 use Rattle.calls.proofs.Subcommands.{Accepts, epc_accepted}
+use Rattle.refusals.specs.Refusals.{Verdict}
 
 module _ (u : Unit) (q : Registers) (z : Record) (all : named q.count ≡ Every) where
   -- "For subcommands 0h, 2h and 3h FFh now selects the supported and changeable conditions, and aborts if there are none. With bit 4, any selected one
@@ -76,9 +76,9 @@ module _ (u : Unit) (q : Registers) (z : Record) (all : named q.count ≡ Every)
       where
         kept : ((before (place_of c)).supported && (before (place_of c)).changeable) ≡ false → (v : Verdict)
             → verdict_in (outcome u (set_features (alone c q))).said ≡ v → after (alone c q) (place_of c) ≡ before (place_of c)
-        kept e Clear h =
+        kept e (Ok _) h =
             absurd (true≢false (sym (alone_aborts u.edition q u.drive z all clear.2 c (inside c) e) ∙ ((epc_accepted u (alone c q)).0 h).2))
-        kept e (Given r) h =
+        kept e (Err r) h =
             after_refusal u (set_features (alone c q)) r (λ v. get_or v.drive.records (place_of c) z ≡ before (place_of c)) refl refl h
 
         on : (b : Bool) → ((before (place_of c)).supported && (before (place_of c)).changeable) ≡ b → after q (place_of c) ≡ after (alone c q) (place_of c)

@@ -1,6 +1,7 @@
 -- What an accepted SET FEATURES EPC leaves, by any Count and on any unit. 0h, 2h and 3h leave a condition that Count names as the table's row says, every
 -- other record, the power condition and the marks as they were, and the idle count at 0. 1h leaves the unit in the named condition and every record as it
 -- was. Each is the law on the drive, carried to the unit.
+use Rattle.std.proofs.Common.{Ok}
 use mathlib.Core.Path.{◌≡◌, refl, sym, ◌∙◌}
 use mathlib.Core.Bool.{Bool, true, false}
 use mathlib.Core.Logic.{◌↔◌}
@@ -23,7 +24,6 @@ use Rattle.epc.proofs.Selected.{unselected_stays}
 use Rattle.epc.proofs.Settings.{Follows, selected_follows}
 use Rattle.refusals.proofs.Lowest.{not_applies, clear_when}
 use Rattle.refusals.specs.declared.Refusal.TheVariants.{BadRecord, CommandOut, Aborted}
-use Rattle.refusals.specs.declared.Verdict.TheVariants.{Clear}
 use Rattle.unit.specs.Units.{is_out, well_formed}
 use Rattle.unit.specs.declared.Unit.{Unit}
 use Rattle.engine.specs.Engine.{epc_rows}
@@ -34,7 +34,7 @@ use Rattle.calls.proofs.Numbers.{own_told, acceptance_does}
 
 -- The call is not refused.
 abbrev pub Accepts : Unit → Registers → Type 0
-Accepts u q = verdict_in (outcome u (set_features q)).said ≡ Clear
+Accepts u q = verdict_in (outcome u (set_features q)).said ≡ Ok tt
 
 -- Of its rows 3, 4 and 10 none applies.
 pub epc_accepted : (u : Unit) (q : Registers)

@@ -1,5 +1,6 @@
 -- The edition makes no other difference. It is read in three places, and at each the two editions agree where `tells_edition` does not hold: then the rows of
 -- the table agree, so the same is given; and each outcome is made, by what is given, of the record's other fields.
+use Rattle.std.proofs.Common.{Ok, Err, Some, None, Option}
 use mathlib.Core.Path.{◌≡◌, refl, sym, ap, ◌∙◌}
 use mathlib.Core.Bool.{Bool, true, false, ◌&&◌, ◌||◌, cond}
 use mathlib.Core.List.{List, []}
@@ -24,8 +25,6 @@ use Rattle.requests.specs.declared.Reply.{Reply}
 use Rattle.requests.specs.declared.Request.{Request}
 use Rattle.refusals.specs.Refusals.{is_same, lowest, rows_by}
 use Rattle.refusals.specs.declared.Refusal.TheVariants.{Aborted}
-use Rattle.refusals.specs.declared.Verdict.{Verdict}
-use Rattle.refusals.specs.declared.Verdict.TheVariants.{Clear, Given}
 use Rattle.epc.proofs.Reserved.{aborts_agree}
 use Rattle.published.specs.Descriptors.{lacks_page}
 use Rattle.published.proofs.Lacks.{lacks_exactly}
@@ -39,8 +38,6 @@ use Rattle.operations.specs.Operations.{due_from, is_flush, is_good, failure_of}
 use Rattle.engine.specs.Engine.{epc_settled, tick_effect, epc_outcome, tick_outcome, read_outcome, write_outcome, power_on_outcome, reset_outcome}
 use Rattle.readouts.specs.Readouts.{filled, sense_outcome, log_outcome, transitions_outcome, new_page_outcome}
 use Rattle.cdb.specs.Cdb.{wanted}
-use Rattle.cdb.specs.declared.Wanted.{Wanted}
-use Rattle.cdb.specs.declared.Wanted.TheVariants.{Wants, Unlisted}
 use Rattle.bridge.specs.Bridge.{start_stop_settled, start_stop_outcome}
 use Rattle.bridge.specs.declared.StartStopped.{StartStopped}
 use Rattle.exchange.specs.Answered.{taken, held_if, failed, answered_for}
@@ -52,6 +49,8 @@ use Rattle.calls.specs.Described.{describe, is_new_page, is_tick, own_rows, effe
 use Rattle.calls.specs.Editions.{Bounded, twin_of, tells_edition, EditionBlind}
 use Rattle.calls.specs.Table.{is_epc, applies_to}
 use Rattle.calls.proofs.Numbers.{own_rows_lem}
+use Rattle.refusals.specs.Refusals.{Verdict}
+use Rattle.requests.specs.declared.Target.{Target}
 
 -- ---- the same is given
 
@@ -127,43 +126,43 @@ module _ (ed : Edition) (u : Unit) where
   twin = with_edition ed u
 
   settles : (v : Unit) (given : Verdict) → plainly (settled twin (with_edition ed v) given) ≡ twin_of ed (plainly (settled u v given))
-  settles v Clear = refl
-  settles v (Given r) = refl
+  settles v (Ok _) = refl
+  settles v (Err r) = refl
 
   -- number 10 restarts the idle count, another one leaves the record
   subcommands : (v : Unit) (given : Verdict) → plainly (epc_settled twin (with_edition ed v) given) ≡ twin_of ed (plainly (epc_settled u v given))
-  subcommands v Clear = refl
-  subcommands v (Given r) = on (is_same r Aborted)
+  subcommands v (Ok _) = refl
+  subcommands v (Err r) = on (is_same r Aborted)
     where
       on : (rests : Bool)
-          → plainly (settled (cond rests (rested twin) twin) (with_edition ed v) (Given r)) ≡ twin_of ed (plainly (settled (cond rests (rested u) u) v (Given r)))
+          → plainly (settled (cond rests (rested twin) twin) (with_edition ed v) (Err r)) ≡ twin_of ed (plainly (settled (cond rests (rested u) u) v (Err r)))
       on true = refl
       on false = refl
 
   fills : (v : Unit) (bytes buffer : List ℕ) (given : Verdict)
       → into_buffer (filled twin (with_edition ed v) bytes buffer given) ≡ twin_of ed (into_buffer (filled u v bytes buffer given))
-  fills v bytes buffer Clear = refl
-  fills v bytes buffer (Given r) = refl
+  fills v bytes buffer (Ok _) = refl
+  fills v bytes buffer (Err r) = refl
 
   abbrev of_start : StartStopped → Outcome
   of_start s = record { said = accepted s.answer; unit = s.unit; buffer = [] }
 
-  starts_stops : (host : ℕ) (cdb : List ℕ) (w : Wanted) (given : Verdict)
+  starts_stops : (host : ℕ) (cdb : List ℕ) (w : Option Target) (given : Verdict)
       → of_start (start_stop_settled twin host cdb w given) ≡ twin_of ed (of_start (start_stop_settled u host cdb w given))
-  starts_stops host cdb Unlisted Clear = refl
-  starts_stops host cdb (Wants target) Clear = refl
-  starts_stops host cdb w (Given r) = refl
+  starts_stops host cdb None (Ok _) = refl
+  starts_stops host cdb (Some target) (Ok _) = refl
+  starts_stops host cdb w (Err r) = refl
 
   abbrev of_next : Asked → Outcome
   of_next a = record { said = sent a.answer; unit = a.unit; buffer = [] }
 
   asks : (host : ℕ) (given : Verdict) → of_next (next_settled twin host given) ≡ twin_of ed (of_next (next_settled u host given))
-  asks host Clear = on (slot_of u.slots host)
+  asks host (Ok _) = on (slot_of u.slots host)
     where
       on : (s : Slot) → of_next (next_on twin host s) ≡ twin_of ed (of_next (next_on u host s))
       on Empty = refl
       on (Waiting q) = refl
-  asks host (Given r) = refl
+  asks host (Err r) = refl
 
   abbrev of_answer : Replied → Outcome
   of_answer r = record { said = progressed r.answer; unit = r.unit; buffer = [] }
@@ -191,12 +190,12 @@ module _ (ed : Edition) (u : Unit) where
       (either_twins (is_good reply) _ _ _ _ refl (fails host q _))
 
   replies : (host : ℕ) (reply : Reply) (given : Verdict) → Twins (answer_settled twin host reply given) (answer_settled u host reply given)
-  replies host reply Clear = on (slot_of u.slots host)
+  replies host reply (Ok _) = on (slot_of u.slots host)
     where
       on : (s : Slot) → Twins (answer_on twin host reply s) (answer_on u host reply s)
       on Empty = refl
       on (Waiting q) = answered host reply q
-  replies host reply (Given r) = refl
+  replies host reply (Err r) = refl
 
   -- Below 65,535 a tick counts on in either edition.
   ticks : leb 65535 u.drive.idle.0 ≡ false → tick_effect twin ≡ with_edition ed (tick_effect u)

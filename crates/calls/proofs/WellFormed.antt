@@ -1,4 +1,5 @@
 -- Every effect changes the parts of a well-formed record so that it stays well formed; so every call and every run keeps it.
+use Rattle.std.proofs.Common.{Ok, Err, Some, None}
 use mathlib.Core.Path.{◌≡◌, refl, ◌∙◌}
 use mathlib.Core.Bool.{Bool, true, false, not, cond, and-true, false≢true}
 use mathlib.Core.List.{List, [], ◌∷◌, map}
@@ -19,7 +20,7 @@ use Rattle.drive.proofs.WellFormed.{made_fine, entered_fine, ticked_fine, powere
 use Rattle.drive.proofs.Maker.{maker_made, maker_ticked, maker_powered_on}
 use Rattle.epc.proofs.Effects.{maker_stays}
 use Rattle.epc.proofs.WellFormed.{stays_well_formed}
-use Rattle.unit.specs.Units.{empty_slot, none_held, hosts_well_formed, well_formed, with_slot, made_unit, blank, largest_of, with_power}
+use Rattle.unit.specs.Units.{hosts_well_formed, well_formed, with_slot, made_unit, blank, largest_of, with_power}
 use Rattle.requests.specs.Requests.{request_well_formed}
 use Rattle.refusals.specs.Refusals.{lowest}
 use Rattle.outcomes.specs.Settled.{settled}
@@ -29,10 +30,7 @@ use Rattle.requests.specs.declared.Target.TheVariants.{Stop, Start, GoTo}
 use Rattle.requests.specs.declared.Stage.{Stage}
 use Rattle.requests.specs.declared.Stage.TheVariants.{Straight, Flushing}
 use Rattle.unit.specs.declared.Slot.TheVariants.{Empty}
-use Rattle.unit.specs.declared.Out.TheVariants.{NoneOut, OutFor}
 use Rattle.refusals.specs.declared.Refusal.TheVariants.{BadRecord, Aborted, CommandOut, HasNone, BadField}
-use Rattle.refusals.specs.declared.Verdict.TheVariants.{Clear, Given}
-use Rattle.refusals.specs.declared.Answer.TheVariants.{Done, Refused}
 use Rattle.outcomes.specs.declared.Called.{Called}
 use Rattle.unit.specs.declared.Unit.{Unit}
 use Rattle.conditions.specs.declared.Power.TheVariants.{Active}
@@ -58,7 +56,7 @@ flush_counted_lem rs unsaved (GoTo c) stage n h f = h
 
 module _ (u : Unit) (fine : UnitFine u) where
   answered_fine : UnitFine (taken u)
-  answered_fine = out_changed _ (idle_restarted u fine) NoneOut refl
+  answered_fine = out_changed _ (idle_restarted u fine) None refl
 
   active_fine : UnitFine (with_power Active (taken u))
   active_fine = drive_changed _ answered_fine _ (entered_fine (largest_of u) _ answered_fine.drive Active) refl
@@ -84,7 +82,7 @@ module _ (u : Unit) (fine : UnitFine u) where
         slot_changed _ (idle_restarted u fine) host _
         (listed_request u.drive.records cdb t (not-false _ (not_applies (start_stop_rows u host cdb) BadField clear)) wants)
         (not_applies (start_stop_rows u host cdb) CommandOut clear);
-    sends = λ host clear. out_changed _ (idle_restarted u fine) (OutFor host) (not-false _ (not_applies (next_rows u host) HasNone clear));
+    sends = λ host clear. out_changed _ (idle_restarted u fine) (Some host) (not-false _ (not_applies (next_rows u host) HasNone clear));
     flushes = λ host reply q waits flush.
         let p = marks_changed _ active_fine u.stopped false in
         let ok = rw waits at (p.requests host) in
@@ -118,7 +116,7 @@ blank_fine ed = made_tests ed (replicate 5 (maker_of unsupported)) ∙ simp leb-
 
 -- manufacture's outcome, by whether the record asked for is well formed
 abbrev manufactured : Edition → List Made → Bool → Called
-manufactured ed ms ok = settled (blank ed) (made_unit ed ms) (cond (not ok) (Given BadRecord) Clear)
+manufactured ed ms ok = settled (blank ed) (made_unit ed ms) (cond (not ok) (Err BadRecord) (Ok tt))
 
 -- Manufacture gives a well-formed record, whatever is asked for: it is accepted only if it is, and the blank unit is.
 pub manufacture_well_formed : (ed : Edition) (ms : List Made) → well_formed (manufacture_outcome ed ms).unit ≡ true
@@ -130,36 +128,36 @@ manufacture_well_formed ed ms = on (well_formed (made_unit ed ms)) refl
     on false e = blank_fine ed
 
 -- It has nothing waiting and nothing unsaved, whether it is the unit asked for or the blank one.
-pub manufacture_rests : (ed : Edition) (ms : List Made) → let u = (manufacture_outcome ed ms).unit in (u.slots ≡ replicate 4 empty_slot) × (u.unsaved ≡ false)
+pub manufacture_rests : (ed : Edition) (ms : List Made) → let u = (manufacture_outcome ed ms).unit in (u.slots ≡ replicate 4 Empty) × (u.unsaved ≡ false)
 unfolding manufacture_outcome lowest
 manufacture_rests ed ms = on (well_formed (made_unit ed ms))
   where
-    on : (ok : Bool) → let u = (manufactured ed ms ok).unit in (u.slots ≡ replicate 4 empty_slot) × (u.unsaved ≡ false)
+    on : (ok : Bool) → let u = (manufactured ed ms ok).unit in (u.slots ≡ replicate 4 Empty) × (u.unsaved ≡ false)
     on true = (refl, refl)
     on false = (refl, refl)
 
 -- Manufacture is accepted exactly if the five records that it asks for are well formed.
 pub manufacture_accepts : (ed : Edition) (ms : List Made)
-    → ((manufacture_outcome ed ms).answer ≡ Done) ↔ (records_well_formed (largest_of (made_unit ed ms)) (map_at made_record 0 ms) ≡ true)
+    → ((manufacture_outcome ed ms).answer ≡ Ok tt) ↔ (records_well_formed (largest_of (made_unit ed ms)) (map_at made_record 0 ms) ≡ true)
 unfolding manufacture_outcome lowest
 manufacture_accepts ed ms = rw (← made_tests ed ms) (on (well_formed (made_unit ed ms)))
   where
-    on : (ok : Bool) → ((manufactured ed ms ok).answer ≡ Done) ↔ (ok ≡ true)
+    on : (ok : Bool) → ((manufactured ed ms ok).answer ≡ Ok tt) ↔ (ok ≡ true)
     on true = (λ e. refl, λ e. refl)
     on false = (λ e. let no : ◌≡◌ {A = ℕ} 0 1 = cc in absurd (omega arith), λ e. absurd (false≢true e))
 
 -- What is accepted is made as it was asked for.
-pub manufacture_makes : (ed : Edition) (ms : List Made) → (manufacture_outcome ed ms).answer ≡ Done → (manufacture_outcome ed ms).unit ≡ made_unit ed ms
+pub manufacture_makes : (ed : Edition) (ms : List Made) → (manufacture_outcome ed ms).answer ≡ Ok tt → (manufacture_outcome ed ms).unit ≡ made_unit ed ms
 unfolding manufacture_outcome lowest
 manufacture_makes ed ms = on (well_formed (made_unit ed ms))
   where
-    on : (ok : Bool) → (manufactured ed ms ok).answer ≡ Done → (manufactured ed ms ok).unit ≡ made_unit ed ms
+    on : (ok : Bool) → (manufactured ed ms ok).answer ≡ Ok tt → (manufactured ed ms ok).unit ≡ made_unit ed ms
     on true e = refl
     on false e = let no : ◌≡◌ {A = ℕ} 0 1 = cc in absurd (omega arith)
 
 -- What is not well formed is refused with 3, and nothing of it comes back but the edition.
 pub manufacture_refuses : (ed : Edition) (ms : List Made) → well_formed (made_unit ed ms) ≡ false
-    → manufacture_outcome ed ms ≡ record { answer = Refused BadRecord; unit = blank ed }
+    → manufacture_outcome ed ms ≡ record { answer = Err BadRecord; unit = blank ed }
 unfolding manufacture_outcome lowest
 manufacture_refuses ed ms e = rw e
 
@@ -175,9 +173,9 @@ pub record IsNew (ed : Edition) (ms : List Made) (u : Unit) : Type 0 where
   pub idle : u.drive.idle.0 ≡ 0
   pub stopped : u.stopped ≡ false
   pub unsaved : u.unsaved ≡ false
-  pub slots : u.slots ≡ replicate 4 empty_slot
-  pub held : u.held ≡ replicate 4 none_held
-  pub out : u.out ≡ NoneOut
+  pub slots : u.slots ≡ replicate 4 Empty
+  pub held : u.held ≡ replicate 4 None
+  pub out : u.out ≡ None
 
 made_new : (ed : Edition) (ms : List Made) → IsNew ed ms (made_unit ed ms)
 unfolding made
@@ -196,7 +194,7 @@ made_new ed ms = record {
 }
 
 -- What is accepted is the unit asked for, of either edition;
-pub manufacture_new : (ed : Edition) (ms : List Made) → (manufacture_outcome ed ms).answer ≡ Done → IsNew ed ms (manufacture_outcome ed ms).unit
+pub manufacture_new : (ed : Edition) (ms : List Made) → (manufacture_outcome ed ms).answer ≡ Ok tt → IsNew ed ms (manufacture_outcome ed ms).unit
 manufacture_new ed ms e = rw (manufacture_makes ed ms e) (made_new ed ms)
 
 -- beside a refusal stands one that supports nothing.

@@ -1,17 +1,17 @@
 -- A call, its whole outcome, and runs of calls. The outcomes are the very definitions that the public calls promise.
-use Rattle.std.specs.Prelude.{List, [], ◌∷◌, ℕ}
+use Rattle.std.specs.Prelude.{List, [], ◌∷◌, ℕ, Result}
 use Rattle.registers.specs.declared.Registers.{Registers}
 use Rattle.outcomes.specs.declared.Called.{Called}
 use Rattle.readouts.specs.Readouts.{Filled, sense_outcome, log_outcome, transitions_outcome, new_page_outcome}
 use Rattle.engine.specs.Engine.{epc_outcome, tick_outcome, read_outcome, write_outcome, power_on_outcome, reset_outcome}
-use Rattle.refusals.specs.declared.Answer.{Answer}
 use Rattle.unit.specs.declared.Unit.{Unit}
 use Rattle.bridge.specs.Bridge.{start_stop_outcome}
 use Rattle.exchange.specs.Exchange.{next_outcome, answer_outcome}
 use Rattle.requests.specs.declared.Reply.{Reply}
 use Rattle.operations.specs.declared.Acceptance.{Acceptance}
-use Rattle.operations.specs.declared.Next.{Next}
 use Rattle.operations.specs.declared.Progress.{Progress}
+use Rattle.refusals.specs.Refusals.{Verdict}
+use Rattle.refusals.specs.declared.Refusal.{Refusal}
 
 -- The calls on a unit, with what each is handed: registers, a host, a CDB, the drive's answer, a page's number, a lent buffer as it came.
 pub data Call : Type 0 where
@@ -32,10 +32,10 @@ pub data Call : Type 0 where
 
 -- What a call says, in the words of its own answer.
 pub data Said : Type 0 where
-  plain : Answer → Said
-  accepted : Acceptance → Said
-  sent : Next → Said
-  progressed : Progress → Said
+  plain : Verdict → Said
+  accepted : Result Acceptance Refusal → Said
+  sent : Result Registers Refusal → Said
+  progressed : Result Progress Refusal → Said
 
 -- The whole outcome: answer, record, and the lent buffer at exit (empty for a call that is lent none).
 pub record Outcome : Type 0 where

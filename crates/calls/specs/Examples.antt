@@ -1,6 +1,6 @@
 -- Document 01, "Examples on both sides": the marked examples, a to m, as one table, and the one statement over it. The statement is about any step
 -- function that is handed over, so it can be proved of `outcome` and refuted of a wrong one.
-use Rattle.std.specs.Prelude.{true, false, List, [], ◌∷◌, ◌≡◌, ℕ, replicate}
+use Rattle.std.specs.Prelude.{true, false, List, [], ◌∷◌, ◌≡◌, ℕ, replicate, Ok, Err}
 use Rattle.drive.specs.Drives.{with_settings, with_records, with_idle, made_record}
 use Rattle.conditions.specs.declared.Condition.TheVariants.{IdleA, IdleB, StandbyY, StandbyZ}
 use Rattle.conditions.specs.declared.Cause.TheVariants.{Timer, Command}
@@ -13,11 +13,9 @@ use Rattle.drive.specs.declared.Made.{Made}
 use Rattle.unit.specs.Units.{with_power, with_drive, made_unit}
 use Rattle.refusals.specs.Refusals.{number_of}
 use Rattle.refusals.specs.declared.Refusal.TheVariants.{BadField, Aborted}
-use Rattle.refusals.specs.declared.Answer.TheVariants.{Done, Refused}
 use Rattle.unit.specs.declared.Unit.{Unit}
 use Rattle.registers.specs.Commands.{ata_command}
-use Rattle.operations.specs.declared.Acceptance.TheVariants.{GoodDue, NotAccepted}
-use Rattle.operations.specs.declared.Next.TheVariants.{Send}
+use Rattle.operations.specs.declared.Acceptance.TheVariants.{GoodDue}
 use Rattle.requests.specs.declared.Reply.TheVariants.{Good}
 use Rattle.calls.specs.Calls.{Call, set_features, tick, write, start_stop, next, answer, request_sense, plain, accepted, sent, Outcome, StepFunction}
 
@@ -36,7 +34,7 @@ last_from by o (c ∷ cs) = last_from by (by o.unit c) cs
 
 -- Before the first call nothing is said but that all is well.
 abbrev pub untouched : Unit → Outcome
-untouched u = record { said = plain Done; unit = u; buffer = [] }
+untouched u = record { said = plain (Ok tt); unit = u; buffer = [] }
 
 abbrev pub IsShown : StepFunction → Example → Type 0
 IsShown by x = x.shows (last_from by (untouched x.start) x.calls)
@@ -89,18 +87,18 @@ cdb_call b₀ b₁ b₂ b₃ b₄ b₅ = start_stop 0 (b₀ ∷ b₁ ∷ b₂ �
 
 -- The whole outcome: done, or refused, with the whole record after it.
 abbrev pub done : Unit → Outcome
-done u = record { said = plain Done; unit = u; buffer = [] }
+done u = record { said = plain (Ok tt); unit = u; buffer = [] }
 
 abbrev pub aborted : Unit → Outcome
-aborted u = record { said = plain (Refused Aborted); unit = u; buffer = [] }
+aborted u = record { said = plain (Err Aborted); unit = u; buffer = [] }
 
 -- The unit is in this condition.
 abbrev pub is_in : Power → Outcome → Type 0
-is_in p o = (o.said ≡ plain Done) × (o.unit.drive.power ≡ p)
+is_in p o = (o.said ≡ plain (Ok tt)) × (o.unit.drive.power ≡ p)
 
 -- The host is handed this command: Command, Feature, Count, LBA.
 abbrev pub sends : ℕ → ℕ → ℕ → ℕ → Outcome → Type 0
-sends command feature count lba o = o.said ≡ sent (Send (ata_command command feature count lba))
+sends command feature count lba o = o.said ≡ sent (Ok (ata_command command feature count lba))
 
 -- ---- the table
 
@@ -167,7 +165,7 @@ example_of *i2 = record {
 example_of *j1 = record {
   start = fresh;
   calls = cdb_call 0x1B 0x01 0x00 0x00 0x00 0x00 ∷ [];
-  shows = λ o. o.said ≡ accepted GoodDue;
+  shows = λ o. o.said ≡ accepted (Ok GoodDue);
 }
 example_of *j2 = record {
   start = fresh;
@@ -184,7 +182,7 @@ example_of *k = record {
   start = idled 7 fresh;
   calls = cdb_call 0x1B 0x00 0x00 0x00 0x02 0x00 ∷ [];
   shows =
-      λ o. (o ≡ record { said = accepted (NotAccepted BadField); unit = idled 7 fresh; buffer = [] }) × (number_of BadField ≡ 8);
+      λ o. (o ≡ record { said = accepted (Err BadField); unit = idled 7 fresh; buffer = [] }) × (number_of BadField ≡ 8);
 }
 -- "Idle_B by command: 70 00 00 00 00 00 00 0A 00 00 00 00 5E 06 00 00 00 00."
 example_of *l = record {
@@ -192,7 +190,7 @@ example_of *l = record {
   calls = request_sense 0 (replicate 18 0xFF) ∷ [];
   shows =
       λ o. o ≡ record {
-        said = plain Done;
+        said = plain (Ok tt);
         unit = with_power (Low IdleB Command) fresh;
         buffer =
             0x70 ∷ 0x00 ∷ 0x00 ∷ 0x00 ∷ 0x00 ∷ 0x00 ∷ 0x00 ∷ 0x0A ∷ 0x00

@@ -1,6 +1,6 @@
 -- Values of document 01, and of document 02, that stand in one definition each, said again on a call: a table of facts beside the marked examples,
 -- under one statement of any step function. Each row is a run from a record, and what its last outcome shows.
-use Rattle.std.specs.Prelude.{Bool, true, false, List, [], ◌∷◌, ◌++◌, ◌≡◌, ℕ, replicate, take}
+use Rattle.std.specs.Prelude.{Bool, true, false, List, [], ◌∷◌, ◌++◌, ◌≡◌, ℕ, replicate, take, Ok, Err, Some, None, Option}
 use Rattle.conditions.specs.declared.Condition.TheVariants.{IdleA, IdleC, StandbyY, StandbyZ}
 use Rattle.conditions.specs.declared.Cause.TheVariants.{Timer, Command}
 use Rattle.conditions.specs.declared.Power.{Power}
@@ -12,15 +12,8 @@ use Rattle.drive.specs.declared.Setting.{Setting}
 use Rattle.drive.specs.declared.Record.{Record}
 use Rattle.drive.specs.declared.Made.{Made}
 use Rattle.refusals.specs.Refusals.{number_of, sense_of}
-use Rattle.refusals.specs.declared.Answer.TheVariants.{Done}
-use Rattle.refusals.specs.declared.SenseDue.{SenseDue}
-use Rattle.refusals.specs.declared.SenseDue.TheVariants.{NoSense, WithSense}
-use Rattle.refusals.specs.declared.Verdict.{Verdict}
-use Rattle.refusals.specs.declared.Verdict.TheVariants.{Clear, Given}
 use Rattle.unit.specs.Units.{with_edition, with_drive, with_power, with_marks, with_slot, with_held, with_out, blank}
 use Rattle.unit.specs.declared.Slot.TheVariants.{Waiting}
-use Rattle.unit.specs.declared.Held.TheVariants.{Holds}
-use Rattle.unit.specs.declared.Out.TheVariants.{OutFor}
 use Rattle.unit.specs.declared.Unit.{Unit}
 use Rattle.operations.specs.declared.Status.{Status}
 use Rattle.operations.specs.declared.Status.TheVariants.{NoStatus, GoodStatus, CheckCondition}
@@ -35,38 +28,40 @@ use Rattle.requests.specs.declared.Reply.TheVariants.{Good, Bad}
 use Rattle.calls.specs.Calls.{Call, tick, read, write, power_on, hard_reset, soft_reset, start_stop, next, answer, request_sense, log_page, transitions_page, new_page, plain, progressed, Outcome, StepFunction}
 use Rattle.calls.specs.Examples.{Example, IsShown, off, on, new, fresh, keeps, quiet, holding, idled, epc_call, cdb_call, done, aborted, is_in, sends}
 use Rattle.calls.specs.Table.{verdict_in}
+use Rattle.refusals.specs.Refusals.{Verdict}
+use Rattle.senses.specs.declared.Sense.{Sense}
 
 -- ---- what the rows show
 
 -- "No." and "Sense" of a refusal. What is not refused has no number: 0 stands here.
 pub record NumberAndSense : Type 0 where
   pub number : ℕ
-  pub sense : SenseDue
+  pub sense : Option Sense
 
 abbrev pub told_of : Verdict → NumberAndSense
-told_of Clear = record { number = 0; sense = NoSense }
-told_of (Given r) = record { number = number_of r; sense = sense_of r }
+told_of (Ok _) = record { number = 0; sense = None }
+told_of (Err r) = record { number = number_of r; sense = sense_of r }
 
-abbrev pub is_refused : ℕ → SenseDue → Outcome → Type 0
+abbrev pub is_refused : ℕ → Option Sense → Outcome → Type 0
 is_refused n due o = told_of (verdict_in o.said) ≡ record { number = n; sense = due }
 
-abbrev pub sense_due : ℕ → ℕ → ℕ → SenseDue
-sense_due key asc ascq = WithSense (record { key = key; asc = asc; ascq = ascq })
+abbrev pub sense_due : ℕ → ℕ → ℕ → Option Sense
+sense_due key asc ascq = Some (record { key = key; asc = asc; ascq = ascq })
 
 -- An operation without IMMED and without a flush ended with GOOD, and left this record.
 abbrev pub ended_good : Unit → Outcome → Type 0
 ended_good u o =
-    o ≡ record { said = progressed (Ended (record { status = GoodStatus; sense = NoSense; flushes = 0 })); unit = u; buffer = [] }
+    o ≡ record { said = progressed (Ok (Ended (record { status = GoodStatus; sense = None; flushes = 0 }))); unit = u; buffer = [] }
 
 -- A stop or a go to failed, without IMMED, with its sense and this many flushes.
 abbrev pub ended_failed : ℕ → Outcome → Type 0
 ended_failed flushes o =
-    o.said ≡ progressed (Ended (record { status = CheckCondition; sense = sense_due 0x0B 0x2C 0x00; flushes = flushes }))
+    o.said ≡ progressed (Ok (Ended (record { status = CheckCondition; sense = sense_due 0x0B 0x2C 0x00; flushes = flushes })))
 
 -- A start failed, with this status, and left this record.
 abbrev pub start_failed : Status → Unit → Outcome → Type 0
 start_failed status u o =
-    o ≡ record { said = progressed (Ended (record { status = status; sense = sense_due 0x02 0x04 0x02; flushes = 0 })); unit = u; buffer = [] }
+    o ≡ record { said = progressed (Ok (Ended (record { status = status; sense = sense_due 0x02 0x04 0x02; flushes = 0 }))); unit = u; buffer = [] }
 
 -- REQUEST SENSE wrote this sense, as a deferred one.
 abbrev pub tells_deferred : ℕ → ℕ → ℕ → Outcome → Type 0
@@ -98,7 +93,7 @@ has_counts counts o = o.unit.drive.counts ≡ counts
 
 -- The call was done and the unit is in this condition, with these counts.
 abbrev pub enters_with : Power → List ℕ → Outcome → Type 0
-enters_with p counts o = (o.said ≡ plain Done) × (o.unit.drive.power ≡ p) × has_counts counts o
+enters_with p counts o = (o.said ≡ plain (Ok tt)) × (o.unit.drive.power ≡ p) × has_counts counts o
 
 -- By the saved and the current setting of Standby_y.
 abbrev pub standby_kept : Setting → Setting → Unit
@@ -119,7 +114,7 @@ abbrev pub waiting_for : Target → Stage → Unit → Unit
 waiting_for t stage u = with_slot 0 (Waiting (record { target = t; immed = false; stage = stage })) u
 
 abbrev pub out_unit : Unit
-out_unit = with_out (OutFor 0) (waiting_for Stop (Flushing 0) fresh)
+out_unit = with_out (Some 0) (waiting_for Stop (Flushing 0) fresh)
 
 -- By Idle_A's record.
 abbrev pub with_idle_a : Record → Unit
@@ -199,26 +194,26 @@ pub data Fact : Type 0 where
 abbrev pub fact_of : Fact → Example
 -- ---- "Numbers given back": each number and its sense, on a call to which its row alone applies.
 -- 1: "CDB not 6 bytes".
-fact_of number_1 = record { start = fresh; calls = start_stop 0 (0x1B ∷ 0 ∷ 0 ∷ 0 ∷ 0 ∷ []) ∷ []; shows = is_refused 1 NoSense }
+fact_of number_1 = record { start = fresh; calls = start_stop 0 (0x1B ∷ 0 ∷ 0 ∷ 0 ∷ 0 ∷ []) ∷ []; shows = is_refused 1 None }
 -- 2: "host above 3".
-fact_of number_2 = record { start = fresh; calls = read 4 ∷ []; shows = is_refused 2 NoSense }
+fact_of number_2 = record { start = fresh; calls = read 4 ∷ []; shows = is_refused 2 None }
 -- 3: "record not well formed": "no timer, recovery time or idle count is above 65,535", each on both sides, of a draft unit.
-fact_of number_3 = record { start = sized 65535 65535 65536; calls = tick ∷ []; shows = is_refused 3 NoSense }
-fact_of recovery_3 = record { start = sized 65535 65536 65535; calls = tick ∷ []; shows = is_refused 3 NoSense }
-fact_of timer_3 = record { start = sized 65536 65535 65535; calls = tick ∷ []; shows = is_refused 3 NoSense }
-fact_of largest_numbers = record { start = sized 65535 65535 65535; calls = tick ∷ []; shows = λ o. o.said ≡ plain Done }
+fact_of number_3 = record { start = sized 65535 65535 65536; calls = tick ∷ []; shows = is_refused 3 None }
+fact_of recovery_3 = record { start = sized 65535 65536 65535; calls = tick ∷ []; shows = is_refused 3 None }
+fact_of timer_3 = record { start = sized 65536 65535 65535; calls = tick ∷ []; shows = is_refused 3 None }
+fact_of largest_numbers = record { start = sized 65535 65535 65535; calls = tick ∷ []; shows = λ o. o.said ≡ plain (Ok tt) }
 -- "a waiting request is one START STOP accepts": a go to a condition that is not supported is none.
-fact_of slot_3 = record { start = waiting_for (GoTo IdleA) Straight (blank Draft); calls = tick ∷ []; shows = is_refused 3 NoSense }
+fact_of slot_3 = record { start = waiting_for (GoTo IdleA) Straight (blank Draft); calls = tick ∷ []; shows = is_refused 3 None }
 -- 4: "a command is out (host calls other than the answer; EPC; ..)".
-fact_of number_4 = record { start = out_unit; calls = write 1 ∷ []; shows = is_refused 4 NoSense }
-fact_of out_read = record { start = out_unit; calls = read 1 ∷ []; shows = is_refused 4 NoSense }
-fact_of out_start = record { start = out_unit; calls = start_stop 1 (0x1B ∷ 0 ∷ 0 ∷ 0 ∷ 0 ∷ 0 ∷ []) ∷ []; shows = is_refused 4 NoSense }
-fact_of out_next = record { start = out_unit; calls = next 0 ∷ []; shows = is_refused 4 NoSense }
-fact_of out_sense = record { start = out_unit; calls = request_sense 1 (replicate 18 0) ∷ []; shows = is_refused 4 NoSense }
-fact_of out_epc = record { start = out_unit; calls = epc_call 0x81 0x1 ∷ []; shows = is_refused 4 NoSense }
+fact_of number_4 = record { start = out_unit; calls = write 1 ∷ []; shows = is_refused 4 None }
+fact_of out_read = record { start = out_unit; calls = read 1 ∷ []; shows = is_refused 4 None }
+fact_of out_start = record { start = out_unit; calls = start_stop 1 (0x1B ∷ 0 ∷ 0 ∷ 0 ∷ 0 ∷ 0 ∷ []) ∷ []; shows = is_refused 4 None }
+fact_of out_next = record { start = out_unit; calls = next 0 ∷ []; shows = is_refused 4 None }
+fact_of out_sense = record { start = out_unit; calls = request_sense 1 (replicate 18 0) ∷ []; shows = is_refused 4 None }
+fact_of out_epc = record { start = out_unit; calls = epc_call 0x81 0x1 ∷ []; shows = is_refused 4 None }
 -- 5: "next asked by a host with none waiting; answer for a host that has none out".
-fact_of number_5 = record { start = fresh; calls = ssu 0 0 0 ∷ next 1 ∷ []; shows = is_refused 5 NoSense }
-fact_of none_out = record { start = fresh; calls = ssu 0 0 0 ∷ answer 0 Good ∷ []; shows = is_refused 5 NoSense }
+fact_of number_5 = record { start = fresh; calls = ssu 0 0 0 ∷ next 1 ∷ []; shows = is_refused 5 None }
+fact_of none_out = record { start = fresh; calls = ssu 0 0 0 ∷ answer 0 Good ∷ []; shows = is_refused 5 None }
 -- 6: "START STOP from a host whose own operation waits".
 fact_of number_6 = record { start = fresh; calls = ssu 0 0 0 ∷ ssu 0 0 1 ∷ []; shows = is_refused 6 (sense_due 0x02 0x04 0x07) }
 -- 7: "opcode not 1Bh".
@@ -231,7 +226,7 @@ fact_of modifier_1 = record { start = fresh; calls = ssu 0 1 0x10 ∷ []; shows 
 fact_of number_9 = record { start = stopped_in Active; calls = read 0 ∷ []; shows = is_refused 9 (sense_due 0x02 0x04 0x02) }
 fact_of written_9 = record { start = stopped_in Active; calls = write 0 ∷ []; shows = is_refused 9 (sense_due 0x02 0x04 0x02) }
 -- 10: "EPC abort": Count FEh is not listed.
-fact_of number_10 = record { start = fresh; calls = epc_call 0xFE 0x40 ∷ []; shows = is_refused 10 NoSense }
+fact_of number_10 = record { start = fresh; calls = epc_call 0xFE 0x40 ∷ []; shows = is_refused 10 None }
 -- ---- "stop enters Standby_y if its current flag is set, else Standby_z, supported or not": not by the saved flag.
 fact_of by_current = record {
   start = standby_kept off (on 9);
@@ -255,9 +250,9 @@ fact_of verify_bad = start_fails (stopped_in (Low StandbyZ Command))
 fact_of verify_stays = start_fails (running_in (Low IdleA Command))
 -- "deferred with IMMED 1", in the place of an older failure; of 1h "as start", told by the next REQUEST SENSE.
 fact_of verify_held = record {
-  start = with_held 0 (Holds CommandSequence) (stopped_in (Low StandbyZ Command));
+  start = with_held 0 (Some CommandSequence) (stopped_in (Low StandbyZ Command));
   calls = cdb_call 0x1B 1 0 0 0x01 0 ∷ next 0 ∷ answer 0 Bad ∷ [];
-  shows = start_failed NoStatus (with_held 0 (Holds NotReady) (with_power Active (stopped_in (Low StandbyZ Command))));
+  shows = start_failed NoStatus (with_held 0 (Some NotReady) (with_power Active (stopped_in (Low StandbyZ Command))));
 }
 fact_of verify_told = record {
   start = fresh;
@@ -344,10 +339,10 @@ fact_of page_1a = record {
       ∷ 0x00 ∷ 0x09 ∷ 0x03 ∷ 0x04 ∷ 0x00 ∷ 0x00 ∷ 0x00 ∷ 0x11 ∷ [];
 }
 -- "Refusals: only 1, for a page buffer not 52 bytes, and 3." So not 4 with a command out.
-fact_of page_51 = record { start = fresh; calls = transitions_page (replicate 51 0xA5) ∷ []; shows = is_refused 1 NoSense }
-fact_of page_53 = record { start = fresh; calls = transitions_page (replicate 53 0xA5) ∷ []; shows = is_refused 1 NoSense }
-fact_of page_3 = record { start = sized 0 0 65536; calls = transitions_page (replicate 52 0xA5) ∷ []; shows = is_refused 3 NoSense }
-fact_of page_out = record { start = out_unit; calls = transitions_page (replicate 52 0xA5) ∷ []; shows = λ o. o.said ≡ plain Done }
+fact_of page_51 = record { start = fresh; calls = transitions_page (replicate 51 0xA5) ∷ []; shows = is_refused 1 None }
+fact_of page_53 = record { start = fresh; calls = transitions_page (replicate 53 0xA5) ∷ []; shows = is_refused 1 None }
+fact_of page_3 = record { start = sized 0 0 65536; calls = transitions_page (replicate 52 0xA5) ∷ []; shows = is_refused 3 None }
+fact_of page_out = record { start = out_unit; calls = transitions_page (replicate 52 0xA5) ∷ []; shows = λ o. o.said ≡ plain (Ok tt) }
 -- "entries into Active and each of the five conditions", "(timer, command or use)": a timer's entry, one straight to Standby_z, a use after it.
 fact_of counts_timer =
     record { start = new (on 1) off off off off; calls = tick ∷ []; shows = has_counts (0 ∷ 0 ∷ 1 ∷ 0 ∷ 0 ∷ 0 ∷ 0 ∷ 0 ∷ 0 ∷ 0 ∷ 0 ∷ 0 ∷ []) }
@@ -447,11 +442,11 @@ fact_of fixed_goes = record {
   shows = λ o. o ≡ done (with_power (Low IdleA Command) (with_idle_a (allowing true false (on 10))));
 }
 -- ---- document 02, request (vi). "11, between 4 and 5, for a new page asked of a draft unit or a page above 1".
-fact_of number_11 = record { start = of_published fresh; calls = new_page 2 (replicate 512 0xA5) ∷ []; shows = is_refused 11 NoSense }
-fact_of draft_11 = record { start = fresh; calls = new_page 0 (replicate 512 0xA5) ∷ []; shows = is_refused 11 NoSense }
-fact_of one_before_11 = record { start = fresh; calls = new_page 0 (replicate 511 0xA5) ∷ []; shows = is_refused 1 NoSense }
-fact_of three_before_11 = record { start = sized 0 0 65536; calls = new_page 2 (replicate 512 0xA5) ∷ []; shows = is_refused 3 NoSense }
-fact_of eleven_not_4 = record { start = of_published out_unit; calls = new_page 1 (replicate 512 0xA5) ∷ []; shows = λ o. o.said ≡ plain Done }
+fact_of number_11 = record { start = of_published fresh; calls = new_page 2 (replicate 512 0xA5) ∷ []; shows = is_refused 11 None }
+fact_of draft_11 = record { start = fresh; calls = new_page 0 (replicate 512 0xA5) ∷ []; shows = is_refused 11 None }
+fact_of one_before_11 = record { start = fresh; calls = new_page 0 (replicate 511 0xA5) ∷ []; shows = is_refused 1 None }
+fact_of three_before_11 = record { start = sized 0 0 65536; calls = new_page 2 (replicate 512 0xA5) ∷ []; shows = is_refused 3 None }
+fact_of eleven_not_4 = record { start = of_published out_unit; calls = new_page 1 (replicate 512 0xA5) ∷ []; shows = λ o. o.said ≡ plain (Ok tt) }
 -- "page 0 has Idle_A, Idle_B, Idle_C at bytes 0, 64, 128; page 1 has Standby_y at 384, Standby_z at 448. In each: byte 1 flags from bit 7 down ..; bytes 4,
 -- 8, 12 the default, saved and current timers, byte 16 recovery in tenths of a second (the record's milliseconds rounded up), each four bytes, low first".
 fact_of idle_page = record {
@@ -495,9 +490,9 @@ fact_of minutes_zero = record { start = idled 7 (of_published fresh); calls = ep
 fact_of draft_minutes = record { start = idled 7 fresh; calls = epc_call 0x82 0x0005A2 ∷ []; shows = λ o. o ≡ aborted fresh }
 fact_of state_minutes = record { start = idled 7 (of_published fresh); calls = epc_call 0x82 0x0000A3 ∷ []; shows = λ o. o ≡ aborted (of_published fresh) }
 -- "In the new edition timers reach 39,321,000 and the idle count stays there".
-fact_of long_timer_3 = record { start = of_published (sized 39321001 0 0); calls = tick ∷ []; shows = is_refused 3 NoSense }
-fact_of long_idle_3 = record { start = of_published (sized 0 0 39321001); calls = tick ∷ []; shows = is_refused 3 NoSense }
-fact_of long_numbers = record { start = of_published (sized 39321000 65535 39321000); calls = tick ∷ []; shows = λ o. o.said ≡ plain Done }
+fact_of long_timer_3 = record { start = of_published (sized 39321001 0 0); calls = tick ∷ []; shows = is_refused 3 None }
+fact_of long_idle_3 = record { start = of_published (sized 0 0 39321001); calls = tick ∷ []; shows = is_refused 3 None }
+fact_of long_numbers = record { start = of_published (sized 39321000 65535 39321000); calls = tick ∷ []; shows = λ o. o.said ≡ plain (Ok tt) }
 fact_of idle_goes_on = record { start = idled 65535 (of_published fresh); calls = tick ∷ []; shows = λ o. o ≡ done (idled 65536 (of_published fresh)) }
 fact_of idle_fills =
     record { start = idled 39320999 (of_published fresh); calls = tick ∷ tick ∷ []; shows = λ o. o ≡ done (idled 39321000 (of_published fresh)) }
@@ -506,10 +501,10 @@ fact_of idle_fills =
 fact_of poll_keeps = record {
   start = idled 7 fresh;
   calls = request_sense 0 (replicate 18 0xFF) ∷ [];
-  shows = λ o. (o.said ≡ plain Done) × (o.unit ≡ idled 7 fresh);
+  shows = λ o. (o.said ≡ plain (Ok tt)) × (o.unit ≡ idled 7 fresh);
 }
 fact_of told_keeps = record {
-  start = with_held 3 (Holds CommandSequence) (idled 7 fresh);
+  start = with_held 3 (Some CommandSequence) (idled 7 fresh);
   calls = request_sense 3 (replicate 18 0xFF) ∷ [];
   shows = λ o. tells_deferred 0x0B 0x2C 0x00 o × (o.unit ≡ idled 7 fresh);
 }

@@ -1,24 +1,21 @@
 -- Document 01, "Numbers given back": the table, number by number, over all calls, with document 02's numbers. Each call's own rows are those of the
 -- table that name it.
-use Rattle.std.specs.Prelude.{Bool, true, false, not, ◌&&◌, ◌||◌, [], ◌≡◌, ◌↔◌, eqb, ltb, length}
+use Rattle.std.specs.Prelude.{Bool, true, false, not, ◌&&◌, ◌||◌, [], ◌≡◌, ◌↔◌, eqb, ltb, length, Ok, Err}
 use Rattle.refusals.specs.Refusals.{IsLowest}
 use Rattle.refusals.specs.declared.Refusal.{Refusal}
 use Rattle.refusals.specs.declared.Refusal.TheVariants.{BadLength, BadHost, BadRecord, CommandOut, NoSuchPage, HasNone, OwnWaiting, BadOpcode, BadField, IsStopped, Aborted}
-use Rattle.refusals.specs.declared.Verdict.{Verdict}
-use Rattle.refusals.specs.declared.Verdict.TheVariants.{Clear, Given}
-use Rattle.refusals.specs.declared.Answer.TheVariants.{Done, Refused}
 use Rattle.unit.specs.Units.{waits, is_out, is_out_for, well_formed}
 use Rattle.unit.specs.declared.Unit.{Unit}
 use Rattle.published.specs.Descriptors.{lacks_page}
 use Rattle.epc.specs.Epc.{aborts}
 use Rattle.cdb.specs.Cdb.{byte, is_listed}
 use Rattle.registers.specs.Commands.{ata_command}
-use Rattle.operations.specs.declared.Acceptance.TheVariants.{GoodDue, Pending, NotAccepted}
-use Rattle.operations.specs.declared.Next.TheVariants.{Send, NotSent}
-use Rattle.operations.specs.declared.Progress.TheVariants.{More, Ended, NotTaken}
+use Rattle.operations.specs.declared.Acceptance.TheVariants.{GoodDue, Pending}
+use Rattle.operations.specs.declared.Progress.TheVariants.{More, Ended}
 use Rattle.requests.specs.declared.Reply.TheVariants.{Good}
 use Rattle.calls.specs.Calls.{Call, set_features, read, write, start_stop, next, answer, Said, plain, accepted, sent, progressed, StepFunction}
 use Rattle.calls.specs.Described.{describe, same_kind, is_new_page, reach_of, of_host, is_call_of, is_answer_for}
+use Rattle.refusals.specs.Refusals.{Verdict}
 
 -- ---- which calls a row names
 
@@ -63,24 +60,24 @@ applies_to u c Aborted = is_epc c && aborts u.edition (describe c).registers u.d
 
 -- What an answer says of the verdict.
 abbrev pub verdict_in : Said → Verdict
-verdict_in (plain Done) = Clear
-verdict_in (plain (Refused r)) = Given r
-verdict_in (accepted GoodDue) = Clear
-verdict_in (accepted Pending) = Clear
-verdict_in (accepted (NotAccepted r)) = Given r
-verdict_in (sent (Send q)) = Clear
-verdict_in (sent (NotSent r)) = Given r
-verdict_in (progressed More) = Clear
-verdict_in (progressed (Ended report)) = Clear
-verdict_in (progressed (NotTaken r)) = Given r
+verdict_in (plain (Ok _)) = Ok tt
+verdict_in (plain (Err r)) = Err r
+verdict_in (accepted (Ok GoodDue)) = Ok tt
+verdict_in (accepted (Ok Pending)) = Ok tt
+verdict_in (accepted (Err r)) = Err r
+verdict_in (sent (Ok q)) = Ok tt
+verdict_in (sent (Err r)) = Err r
+verdict_in (progressed (Ok More)) = Ok tt
+verdict_in (progressed (Ok (Ended report))) = Ok tt
+verdict_in (progressed (Err r)) = Err r
 
 -- The call is not refused.
 abbrev pub is_clear : Verdict → Bool
-is_clear Clear = true
-is_clear (Given r) = false
+is_clear (Ok _) = true
+is_clear (Err r) = false
 
 -- ---- the statement
 
 -- "The lowest number that applies is given", by a step function: exactly then, on every record and call.
 abbrev pub Numbers : StepFunction → Type 0
-Numbers by = (u : Unit) (c : Call) (r : Refusal) → verdict_in (by u c).said ≡ Given r ↔ IsLowest (applies_to u c) r
+Numbers by = (u : Unit) (c : Call) (r : Refusal) → verdict_in (by u c).said ≡ Err r ↔ IsLowest (applies_to u c) r

@@ -1,5 +1,6 @@
 -- "Anything else is refused": a CDB is listed exactly if its reserved bits are zero, its fields ask for a target of the list, and a condition that it
 -- names is supported. Byte 5 and, for 1h to 3h, LOEJ and START stand nowhere in it.
+use Rattle.std.proofs.Common.{Some}
 use mathlib.Core.Path.{◌≡◌, refl, ◌∙◌, sym}
 use mathlib.Core.Bool.{true, false}
 use mathlib.Core.List.{List}
@@ -17,7 +18,6 @@ use Rattle.bits.proofs.Ranges.{none_each, unnamed_none}
 use Rattle.requests.specs.declared.Target.{Target}
 use Rattle.requests.specs.declared.Target.TheVariants.{Stop, Start, GoTo}
 use Rattle.cdb.specs.Cdb.{byte, power_condition, modifier, loej, start, wanted, fits, is_listed}
-use Rattle.cdb.specs.declared.Wanted.TheVariants.{Wants}
 use Rattle.cdb.proofs.Decision.{AskFor, decided_exactly}
 use Rattle.cdb.proofs.Requests.{fitting, listed_fits, listed_unreserved, listed_when}
 use Rattle.cdb.proofs.Reserved.{named_in, reserved_exactly, unreserved}
@@ -31,12 +31,12 @@ pub record Listed (rs : List Record) (cdb : List ℕ) : Type 0 where
   -- "The condition must be supported."
   pub supported : (c : Condition) → target ≡ GoTo c → (get_or rs (place_of c) unsupported).supported ≡ true
 
-fits_supported : (rs : List Record) (t : Target) → fits rs (Wants t) ≡ true → (c : Condition) → t ≡ GoTo c
+fits_supported : (rs : List Record) (t : Target) → fits rs (Some t) ≡ true → (c : Condition) → t ≡ GoTo c
     → (get_or rs (place_of c) unsupported).supported ≡ true
 fits_supported rs t h c e = rw e at h
 
 supported_fits : (rs : List Record) (t : Target) → ((c : Condition) → t ≡ GoTo c → (get_or rs (place_of c) unsupported).supported ≡ true)
-    → fits rs (Wants t) ≡ true
+    → fits rs (Some t) ≡ true
 supported_fits rs Stop h = refl
 supported_fits rs Start h = refl
 supported_fits rs (GoTo c) h = h c refl

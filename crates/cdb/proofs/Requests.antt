@@ -1,5 +1,6 @@
 -- "a waiting request is one START STOP accepts": a request is well formed exactly if some CDB asks for it and is listed.
 -- A CDB is written from its fields and read back by arithmetic, over all fields at once; what the fields say is the table of document 01.
+use Rattle.std.proofs.Common.{Some, None, Option}
 use mathlib.Core.Path.{◌≡◌, refl, ap, sym, ◌∙◌}
 use mathlib.Core.Bool.{Bool, true, false, not, false≢true}
 use mathlib.Core.List.{List, [], ◌∷◌}
@@ -22,25 +23,23 @@ use Rattle.requests.specs.declared.Stage.TheVariants.{Straight, Flushing}
 use Rattle.requests.specs.declared.Request.{Request}
 use Rattle.cdb.specs.Cdb.{byte, immed, modifier, power_condition, no_flush, loej, start, reserved_in_cdb, decided, wanted, fits, is_listed, stage_for, request_for}
 use Rattle.cdb.proofs.Decision.{number_for, modifier_for, start_for, asked_decides}
-use Rattle.cdb.specs.declared.Wanted.{Wanted}
-use Rattle.cdb.specs.declared.Wanted.TheVariants.{Wants, Unlisted}
 
 -- ---- a CDB that is accepted
 
-fits_request : (rs : List Record) (t : Target) (without : Bool) → fits rs (Wants t) ≡ true → request_well_formed rs t (stage_for t without) ≡ true
+fits_request : (rs : List Record) (t : Target) (without : Bool) → fits rs (Some t) ≡ true → request_well_formed rs t (stage_for t without) ≡ true
 fits_request rs Stop without h = refl
 fits_request rs Start without h = refl
 fits_request rs (GoTo c) without h = h
 
 -- The request of every CDB that is listed is well formed.
-pub listed_request : (rs : List Record) (cdb : List ℕ) (t : Target) → is_listed rs cdb ≡ true → wanted cdb ≡ Wants t
+pub listed_request : (rs : List Record) (cdb : List ℕ) (t : Target) → is_listed rs cdb ≡ true → wanted cdb ≡ Some t
     → request_well_formed rs t (stage_for t (no_flush cdb)) ≡ true
 unfolding is_listed
 listed_request rs cdb t h w =
     fits_request rs t (no_flush cdb) (rw w at (and_right (not (reserved_in_cdb cdb)) (fits rs (wanted cdb)) h))
 
 -- A CDB is listed if no reserved bit is one and what it asks for fits; and then no reserved bit is.
-pub listed_when : (rs : List Record) (cdb : List ℕ) (t : Target) → reserved_in_cdb cdb ≡ false → wanted cdb ≡ Wants t → fits rs (Wants t) ≡ true
+pub listed_when : (rs : List Record) (cdb : List ℕ) (t : Target) → reserved_in_cdb cdb ≡ false → wanted cdb ≡ Some t → fits rs (Some t) ≡ true
     → is_listed rs cdb ≡ true
 unfolding is_listed
 listed_when rs cdb t none wants ok = rw (none, wants) ok
@@ -50,9 +49,9 @@ unfolding is_listed
 listed_unreserved rs cdb h = not-true _ (and_left (not (reserved_in_cdb cdb)) _ h)
 
 -- What fits is a target.
-pub fitting : (rs : List Record) (w : Wanted) → fits rs w ≡ true → (t : Target) × (w ≡ Wants t) × (fits rs (Wants t) ≡ true)
-fitting rs Unlisted h = absurd (false≢true h)
-fitting rs (Wants t) h = (t, refl, h)
+pub fitting : (rs : List Record) (w : Option Target) → fits rs w ≡ true → (t : Target) × (w ≡ Some t) × (fits rs (Some t) ≡ true)
+fitting rs None h = absurd (false≢true h)
+fitting rs (Some t) h = (t, refl, h)
 
 -- What a listed CDB asks for fits.
 pub listed_fits : (rs : List Record) (cdb : List ℕ) → is_listed rs cdb ≡ true → fits rs (wanted cdb) ≡ true
@@ -153,11 +152,11 @@ pub record AskedBy (rs : List Record) (q : Request) (cdb : List ℕ) : Type 0 wh
   pub bytes : every_at (λ at b. ltb b 256) 0 cdb ≡ true
   pub opcode : byte 0 cdb ≡ 0x1B
   pub listed : is_listed rs cdb ≡ true
-  pub wants : wanted cdb ≡ Wants q.target
+  pub wants : wanted cdb ≡ Some q.target
   pub request : request_for q.target cdb ≡ begun q
 
 -- A well-formed request's target fits the unit.
-pub request_fits : (rs : List Record) (t : Target) (stage : Stage) → request_well_formed rs t stage ≡ true → fits rs (Wants t) ≡ true
+pub request_fits : (rs : List Record) (t : Target) (stage : Stage) → request_well_formed rs t stage ≡ true → fits rs (Some t) ≡ true
 request_fits rs Stop stage h = refl
 request_fits rs Start stage h = refl
 request_fits rs (GoTo c) stage h = h
@@ -186,7 +185,7 @@ request_asked rs q h =
     let n = number_for t in
     let f = is_straight q.stage in
     let s = start_for t in
-    let asks : wanted (cdb_for q) ≡ Wants t = read_wanted q.immed m n f s d.0 d.1 ∙ asked_decides t false s (λ z. (refl, refl)) in
+    let asks : wanted (cdb_for q) ≡ Some t = read_wanted q.immed m n f s d.0 d.1 ∙ asked_decides t false s (λ z. (refl, refl)) in
     record {
       six = refl;
       bytes = rw (

@@ -1,5 +1,5 @@
 -- Document 01, "START STOP UNIT": the CDB and the decision over the power condition number.
-use Rattle.std.specs.Prelude.{Bool, true, false, not, ◌&&◌, ◌||◌, cond, List, ℕ, eqb, get_or}
+use Rattle.std.specs.Prelude.{Bool, true, false, not, ◌&&◌, ◌||◌, cond, List, ℕ, eqb, get_or, Some, None, Option}
 use Rattle.conditions.specs.declared.Condition.TheVariants.{IdleA, IdleB, IdleC, StandbyY, StandbyZ}
 use Rattle.drive.specs.declared.Record.{Record}
 use Rattle.bits.specs.Bits.{bits, bit, some_one}
@@ -9,8 +9,6 @@ use Rattle.requests.specs.declared.Target.TheVariants.{Stop, Start, GoTo}
 use Rattle.requests.specs.declared.Stage.{Stage}
 use Rattle.requests.specs.declared.Stage.TheVariants.{Straight, Flushing}
 use Rattle.requests.specs.declared.Request.{Request}
-use Rattle.cdb.specs.declared.Wanted.{Wanted}
-use Rattle.cdb.specs.declared.Wanted.TheVariants.{Wants, Unlisted}
 
 -- "CDB of 6 bytes (003)". A byte that is not there reads as 0; number 1 is given before one is looked at.
 abbrev pub byte : ℕ → List ℕ → ℕ
@@ -45,39 +43,39 @@ reserved_in_cdb cdb =
 -- ---- "The decision runs over the power condition number:"
 
 -- "0h, modifier 0, LOEJ 0, START 0: stop." "0h, modifier 0, LOEJ 0, START 1: start."
-abbrev pub stop_or_start : ℕ → Bool → Bool → Wanted
-stop_or_start m ejects starts = cond (eqb m 0) (cond ejects Unlisted (Wants (cond starts Start Stop))) Unlisted
+abbrev pub stop_or_start : ℕ → Bool → Bool → Option Target
+stop_or_start m ejects starts = cond (eqb m 0) (cond ejects None (Some (cond starts Start Stop))) None
 
 -- "1h, modifier 0: as start (H)."
-abbrev pub as_start : ℕ → Wanted
-as_start m = cond (eqb m 0) (Wants Start) Unlisted
+abbrev pub as_start : ℕ → Option Target
+as_start m = cond (eqb m 0) (Some Start) None
 
 -- "2h, modifiers 0, 1, 2: flush, then go to Idle_A, Idle_B, Idle_C."
-abbrev pub idles : ℕ → Wanted
+abbrev pub idles : ℕ → Option Target
 idles m =
-    cond (eqb m 0) (Wants (GoTo IdleA)) (cond (eqb m 1) (Wants (GoTo IdleB)) (cond (eqb m 2) (Wants (GoTo IdleC)) Unlisted))
+    cond (eqb m 0) (Some (GoTo IdleA)) (cond (eqb m 1) (Some (GoTo IdleB)) (cond (eqb m 2) (Some (GoTo IdleC)) None))
 
 -- "3h, modifiers 0, 1: flush, then go to Standby_z, Standby_y."
-abbrev pub standbys : ℕ → Wanted
-standbys m = cond (eqb m 0) (Wants (GoTo StandbyZ)) (cond (eqb m 1) (Wants (GoTo StandbyY)) Unlisted)
+abbrev pub standbys : ℕ → Option Target
+standbys m = cond (eqb m 0) (Some (GoTo StandbyZ)) (cond (eqb m 1) (Some (GoTo StandbyY)) None)
 
 -- "Anything else is refused. For 1h to 3h LOEJ and START are ignored."
-abbrev pub decided : ℕ → ℕ → Bool → Bool → Wanted
+abbrev pub decided : ℕ → ℕ → Bool → Bool → Option Target
 decided number m ejects starts =
     cond (eqb number 0) (stop_or_start m ejects starts)
     (cond (eqb number 1) (as_start m)
     (cond (eqb number 2) (idles m)
-    (cond (eqb number 3) (standbys m) Unlisted)))
+    (cond (eqb number 3) (standbys m) None)))
 
-unfoldable pub wanted : List ℕ → Wanted
+unfoldable pub wanted : List ℕ → Option Target
 wanted cdb = decided (power_condition cdb) (modifier cdb) (loej cdb) (start cdb)
 
 -- "The condition must be supported."
-abbrev pub fits : List Record → Wanted → Bool
-fits rs Unlisted = false
-fits rs (Wants Stop) = true
-fits rs (Wants Start) = true
-fits rs (Wants (GoTo c)) = supported_in rs c
+abbrev pub fits : List Record → Option Target → Bool
+fits rs None = false
+fits rs (Some Stop) = true
+fits rs (Some Start) = true
+fits rs (Some (GoTo c)) = supported_in rs c
 
 -- In "the list above".
 unfoldable pub is_listed : List Record → List ℕ → Bool

@@ -1,23 +1,15 @@
 // The CDB of START STOP UNIT (T10 07-485r3, 08-184): what its bytes ask for. No unit is needed.
 #![tactic(auto)]
 
-ghost use Rattle.std.specs.Prelude.{cond, not, ◌&&◌, ◌≡◌};
+ghost use Rattle.std.specs.Prelude.{cond, not, ◌&&◌, ◌≡◌, Some, None};
 ghost use Rattle.requests.specs.declared.Stage.TheVariants.{Straight, Flushing};
 ghost use Rattle.requests.specs.declared.Target.TheVariants.{Stop, Start};
 ghost use Rattle.cdb.specs.Cdb.{byte, immed, reserved_in_cdb, stop_or_start, as_start, idles, standbys, decided, wanted, stage_for, request_for};
 ghost use Rattle.cdb.specs.Cdb;
-ghost use Rattle.cdb.specs.declared.Wanted.TheVariants.{Wants, Unlisted};
 
 use conditions::Condition;
 use drive::Record;
 use requests::{Request, Stage, Target};
-
-// What a CDB asks for.
-#[derive(Clone, Copy)]
-pub enum Wanted {
-    Unlisted,
-    Wants(Target),
-}
 
 pub fn byte_at(cdb: &[u8], k: usize) -> u8
     ensures { result ≡ byte k cdb.now }
@@ -44,63 +36,63 @@ fn reserved_in_cdb(cdb: &[u8]) -> bool
 }
 
 // Power condition 0h: stop or start.
-fn stop_or_start(modifier: u8, ejects: bool, starts: bool) -> Wanted
+fn stop_or_start(modifier: u8, ejects: bool, starts: bool) -> Option<Target>
     ensures { result ≡ stop_or_start modifier ejects starts }
 {
     match modifier {
         0 => stop_start_bits(ejects, starts),
-        1..=0xFF => Wanted::Unlisted,
+        1..=0xFF => None,
     }
 }
 
-fn stop_start_bits(ejects: bool, starts: bool) -> Wanted
-    ensures { result ≡ cond ejects Unlisted (Wants (cond starts Start Stop)) }
+fn stop_start_bits(ejects: bool, starts: bool) -> Option<Target>
+    ensures { result ≡ cond ejects None (Some (cond starts Start Stop)) }
 {
     if ejects {
-        return Wanted::Unlisted;
+        return None;
     }
     if starts {
-        Wanted::Wants(Target::Start)
+        Some(Target::Start)
     } else {
-        Wanted::Wants(Target::Stop)
+        Some(Target::Stop)
     }
 }
 
 // Power condition 1h: as start.
-fn as_start(modifier: u8) -> Wanted
+fn as_start(modifier: u8) -> Option<Target>
     ensures { result ≡ as_start modifier }
 {
     match modifier {
-        0 => Wanted::Wants(Target::Start),
-        1..=0xFF => Wanted::Unlisted,
+        0 => Some(Target::Start),
+        1..=0xFF => None,
     }
 }
 
 // Power condition 2h: the three idle conditions.
-fn idle(modifier: u8) -> Wanted
+fn idle(modifier: u8) -> Option<Target>
     ensures { result ≡ idles modifier }
 {
     match modifier {
-        0 => Wanted::Wants(Target::GoTo(Condition::IdleA)),
-        1 => Wanted::Wants(Target::GoTo(Condition::IdleB)),
-        2 => Wanted::Wants(Target::GoTo(Condition::IdleC)),
-        3..=0xFF => Wanted::Unlisted,
+        0 => Some(Target::GoTo(Condition::IdleA)),
+        1 => Some(Target::GoTo(Condition::IdleB)),
+        2 => Some(Target::GoTo(Condition::IdleC)),
+        3..=0xFF => None,
     }
 }
 
 // Power condition 3h: the two standby conditions.
-fn standby(modifier: u8) -> Wanted
+fn standby(modifier: u8) -> Option<Target>
     ensures { result ≡ standbys modifier }
 {
     match modifier {
-        0 => Wanted::Wants(Target::GoTo(Condition::StandbyZ)),
-        1 => Wanted::Wants(Target::GoTo(Condition::StandbyY)),
-        2..=0xFF => Wanted::Unlisted,
+        0 => Some(Target::GoTo(Condition::StandbyZ)),
+        1 => Some(Target::GoTo(Condition::StandbyY)),
+        2..=0xFF => None,
     }
 }
 
 // The decision runs over the power condition number.
-fn decide(number: u8, modifier: u8, ejects: bool, starts: bool) -> Wanted
+fn decide(number: u8, modifier: u8, ejects: bool, starts: bool) -> Option<Target>
     ensures { result ≡ decided number modifier ejects starts }
 {
     match number {
@@ -108,11 +100,11 @@ fn decide(number: u8, modifier: u8, ejects: bool, starts: bool) -> Wanted
         1 => as_start(modifier),
         2 => idle(modifier),
         3 => standby(modifier),
-        4..=0xFF => Wanted::Unlisted,
+        4..=0xFF => None,
     }
 }
 
-pub fn read_wanted(cdb: &[u8]) -> Wanted
+pub fn read_wanted(cdb: &[u8]) -> Option<Target>
     ensures { result ≡ wanted cdb.now }
 {
     let b = byte_at(cdb, 4);
@@ -124,12 +116,12 @@ pub fn read_wanted(cdb: &[u8]) -> Wanted
     )
 }
 
-fn fits(records: [Record; 5], w: Wanted) -> bool
+fn fits(records: [Record; 5], w: Option<Target>) -> bool
     ensures { result ≡ Cdb.fits records w }
 {
     match w {
-        Wanted::Unlisted => false,
-        Wanted::Wants(t) => match t {
+        None => false,
+        Some(t) => match t {
             Target::Stop => true,
             Target::Start => true,
             Target::GoTo(c) => requests::supported_in(records, c),
@@ -137,7 +129,7 @@ fn fits(records: [Record; 5], w: Wanted) -> bool
     }
 }
 
-pub fn is_listed(records: [Record; 5], cdb: &[u8], w: Wanted) -> bool
+pub fn is_listed(records: [Record; 5], cdb: &[u8], w: Option<Target>) -> bool
     ensures { result ≡ not (reserved_in_cdb cdb.now) && Cdb.fits records w }
 {
     !reserved_in_cdb(cdb) & fits(records, w)

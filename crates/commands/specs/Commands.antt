@@ -1,5 +1,5 @@
 -- The format page, "Calls": each call's line. Assumes nothing.
-use Rattle.std.specs.Prelude.{Bool, true, cond, ◌&&◌, List, [], ◌∷◌, ℕ, eqb, leb, ltb, drop, length}
+use Rattle.std.specs.Prelude.{Bool, true, cond, ◌&&◌, Option, Some, None, List, [], ◌∷◌, ℕ, leb, drop, length}
 use Rattle.asked.specs.declared.CallLine.TheVariants.{Plain, StartStop, Next, Answer, Sense, Log, Transitions, NewPage}
 use Rattle.asked.specs.declared.Line.{Line}
 use Rattle.asked.specs.declared.Line.TheVariants.{Asks, Makes}
@@ -11,54 +11,52 @@ use Rattle.requests.specs.declared.Reply.TheVariants.{Good, Bad}
 use Rattle.words.specs.Codes.{codes}
 use Rattle.words.specs.Numbers.{is_number, value_of}
 use Rattle.words.specs.Words.{words}
-use Rattle.words.specs.declared.Number.{Number}
 use Rattle.asked.specs.Editions.{edition_from}
-use Rattle.asked.specs.Offers.{offered}
-use Rattle.words.specs.Fields.{has_words, number_in, name_in, host_in, length_in, byte_in, wide_in, flag_in}
+use Rattle.asked.specs.Kinds.{kind_in}
+use Rattle.asked.specs.Offers.{offered, ◌then◌}
+use Rattle.words.specs.Fields.{has_words, number_in, host_in, length_in, byte_in, wide_in, flag_in}
 
 -- `tick [N]`: "N single ticks, up to FFFFF (1 if left out)".
-unfoldable pub tick_line : List ℕ → Line
-tick_line line =
-    cond (has_words 1 line) (Asks (Plain (Tick 1)))
-    (offered (has_words 2 line && (number_in 0xFFFFF 1 line).good) (Asks (Plain (Tick (number_in 0xFFFFF 1 line).value))))
+abbrev pub turns_in : List ℕ → Option ℕ
+turns_in line = cond (has_words 1 line) (Some 1) (offered (has_words 2 line) (number_in 0xFFFFF 1 line))
+
+unfoldable pub tick_line : List ℕ → Option Line
+tick_line line = turns_in line then λ turns. Some (Asks (Plain (Tick turns)))
 
 -- `epc CMD FEAT COUNT LBA`: "EPC registers".
-abbrev pub registers_in : List ℕ → Registers
-registers_in line = record {
-  command = (byte_in 1 line).value;
-  feature = (byte_in 2 line).value;
-  count = (byte_in 3 line).value;
-  lba = (wide_in 4 line).value;
-}
+abbrev pub registers_in : List ℕ → Option Registers
+registers_in line =
+    byte_in 1 line then λ command.
+    byte_in 2 line then λ feature.
+    byte_in 3 line then λ count.
+    wide_in 4 line then λ lba.
+    Some (record { command = command; feature = feature; count = count; lba = lba })
 
-unfoldable pub epc_line : List ℕ → Line
-epc_line line =
-    offered (has_words 5 line && (byte_in 1 line).good && (byte_in 2 line).good && (byte_in 3 line).good && (wide_in 4 line).good)
-    (Asks (Plain (Epc (registers_in line))))
+unfoldable pub epc_line : List ℕ → Option Line
+epc_line line = offered (has_words 5 line) (registers_in line then λ registers. Some (Asks (Plain (Epc registers))))
 
 -- `read H`, `write H`, `next H`.
-abbrev pub only_host : List ℕ → Number
-only_host line = record { good = has_words 2 line && (host_in 1 line).good; value = (host_in 1 line).value }
+abbrev pub only_host : List ℕ → Option ℕ
+only_host line = offered (has_words 2 line) (host_in 1 line)
 
-unfoldable pub read_line : List ℕ → Line
-read_line line = offered (only_host line).good (Asks (Plain (Read (only_host line).value)))
+unfoldable pub read_line : List ℕ → Option Line
+read_line line = only_host line then λ host. Some (Asks (Plain (Read host)))
 
-unfoldable pub write_line : List ℕ → Line
-write_line line = offered (only_host line).good (Asks (Plain (Write (only_host line).value)))
+unfoldable pub write_line : List ℕ → Option Line
+write_line line = only_host line then λ host. Some (Asks (Plain (Write host)))
 
-unfoldable pub next_line : List ℕ → Line
-next_line line = offered (only_host line).good (Asks (Next (only_host line).value))
+unfoldable pub next_line : List ℕ → Option Line
+next_line line = only_host line then λ host. Some (Asks (Next host))
 
 -- `reset power`, `reset hard`, `reset soft`.
 abbrev pub reset_names : List (List ℕ)
 reset_names = codes "power" ∷ codes "hard" ∷ codes "soft" ∷ []
 
-abbrev pub reset_call : ℕ → PlainCall
-reset_call place = cond (eqb place 0) PowerOn (cond (eqb place 1) HardReset SoftReset)
+abbrev pub resets : List PlainCall
+resets = PowerOn ∷ HardReset ∷ SoftReset ∷ []
 
-unfoldable pub reset_line : List ℕ → Line
-reset_line line =
-    offered (has_words 2 line && ltb (name_in reset_names 1 line) 3) (Asks (Plain (reset_call (name_in reset_names 1 line))))
+unfoldable pub reset_line : List ℕ → Option Line
+reset_line line = offered (has_words 2 line) (kind_in reset_names resets 1 line then λ reset. Some (Asks (Plain reset)))
 
 -- `ssu H b0 b1 ...`: "one word a byte, 0 to 40 (decimal) bytes; no word is the empty CDB".
 abbrev pub are_bytes : List (List ℕ) → Bool
@@ -78,43 +76,41 @@ is_cdb line = leb (length (words line)) 42 && are_bytes (byte_words line)
 unfoldable pub cdb_in : List ℕ → List ℕ
 cdb_in line = cond (is_cdb line) (values (byte_words line)) []
 
-unfoldable pub start_stop_line : List ℕ → Line
-start_stop_line line = offered ((host_in 1 line).good && is_cdb line) (Asks (StartStop (host_in 1 line).value))
+unfoldable pub start_stop_line : List ℕ → Option Line
+start_stop_line line = host_in 1 line then λ host. offered (is_cdb line) (Some (Asks (StartStop host)))
 
 -- `answer H good`, `answer H bad`.
 abbrev pub reply_names : List (List ℕ)
 reply_names = codes "good" ∷ codes "bad" ∷ []
 
-abbrev pub reply_from : ℕ → Reply
-reply_from place = cond (eqb place 0) Good Bad
+abbrev pub replies : List Reply
+replies = Good ∷ Bad ∷ []
 
-unfoldable pub answer_line : List ℕ → Line
+unfoldable pub answer_line : List ℕ → Option Line
 answer_line line =
-    offered (has_words 3 line && (host_in 1 line).good && ltb (name_in reply_names 2 line) 2)
-    (Asks (Answer (host_in 1 line).value (reply_from (name_in reply_names 2 line))))
+    offered (has_words 3 line)
+    (host_in 1 line then λ host. kind_in reply_names replies 2 line then λ reply. Some (Asks (Answer host reply)))
 
 -- `sense H LEN`.
-unfoldable pub sense_line : List ℕ → Line
+unfoldable pub sense_line : List ℕ → Option Line
 sense_line line =
-    offered (has_words 3 line && (host_in 1 line).good && (length_in 2 line).good)
-    (Asks (Sense (host_in 1 line).value (length_in 2 line).value))
+    offered (has_words 3 line) (host_in 1 line then λ host. length_in 2 line then λ len. Some (Asks (Sense host len)))
 
 -- `log LEN`, `trans LEN`.
-abbrev pub only_length : List ℕ → Number
-only_length line = record { good = has_words 2 line && (length_in 1 line).good; value = (length_in 1 line).value }
+abbrev pub only_length : List ℕ → Option ℕ
+only_length line = offered (has_words 2 line) (length_in 1 line)
 
-unfoldable pub log_line : List ℕ → Line
-log_line line = offered (only_length line).good (Asks (Log (only_length line).value))
+unfoldable pub log_line : List ℕ → Option Line
+log_line line = only_length line then λ len. Some (Asks (Log len))
 
-unfoldable pub transitions_line : List ℕ → Line
-transitions_line line = offered (only_length line).good (Asks (Transitions (only_length line).value))
+unfoldable pub transitions_line : List ℕ → Option Line
+transitions_line line = only_length line then λ len. Some (Asks (Transitions len))
 
 -- `page P LEN`: "P 0 to FF".
-unfoldable pub new_page_line : List ℕ → Line
+unfoldable pub new_page_line : List ℕ → Option Line
 new_page_line line =
-    offered (has_words 3 line && (byte_in 1 line).good && (length_in 2 line).good)
-    (Asks (NewPage (byte_in 1 line).value (length_in 2 line).value))
+    offered (has_words 3 line) (byte_in 1 line then λ page. length_in 2 line then λ len. Some (Asks (NewPage page len)))
 
 -- `make E`: "E 0 or 1".
-unfoldable pub make_line : List ℕ → Line
-make_line line = offered (has_words 2 line && (flag_in 1 line).good) (Makes (edition_from (flag_in 1 line).value))
+unfoldable pub make_line : List ℕ → Option Line
+make_line line = offered (has_words 2 line) (flag_in 1 line then λ published. Some (Makes (edition_from published)))

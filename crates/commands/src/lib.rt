@@ -1,233 +1,198 @@
-// The lines that make a call, read: each as the call that it asks for.
+// The lines that make a call, read: each as the call that it asks for, if it is as the format says.
 #![tactic(auto)]
 
-ghost use Rattle.std.specs.Prelude.{◌≡◌, ◌≤◌, take};
+ghost use Rattle.std.specs.Prelude.{[], ◌≡◌, ◌≤◌, MatchOption, is_some, take};
 ghost use Rattle.words.specs.Lines.{line_in};
-ghost use Rattle.commands.specs.Commands;
-ghost use Rattle.commands.specs.Commands.{only_host, only_length, tick_line, epc_line, read_line, write_line, reset_line, start_stop_line, next_line, reply_from, answer_line, sense_line, log_line, transitions_line, new_page_line, make_line, cdb_in, is_cdb};
+ghost use Rattle.commands.specs.Commands.{only_host, only_length, tick_line, epc_line, read_line, write_line, reset_line, start_stop_line, next_line, answer_line, sense_line, log_line, transitions_line, new_page_line, make_line, cdb_in, is_cdb};
 
 use asked::{CallLine, Line, PlainCall};
 use registers::Registers;
 use requests::Reply;
-use words::Number;
 
-// START STOP UNIT's bytes.
+// START STOP UNIT's bytes: the first `len` of these. A length beside them, since the layer has no heap.
 #[derive(Clone, Copy)]
-pub struct ReadCdb {
-    pub good: bool,
+pub struct CdbBytes {
     pub bytes: [u8; 40],
     pub len: usize,
 }
 
-pub fn tick_line(line: &[u8]) -> Line
+#[tactic(auto, unfolding(crate::specs::Commands::tick_line))]
+pub fn tick_line(line: &[u8]) -> Option<Line>
     ensures { result ≡ tick_line line.now }
 {
-    let n = words::word_count(line);
-    let turns = words::number_at(line, 1, 0xFFFFF);
-    if n == 1 {
-        return Line::Asks(CallLine::Plain(PlainCall::Tick(1)));
-    }
-    asked::offered(
-        (n == 2) & turns.good,
-        Line::Asks(CallLine::Plain(PlainCall::Tick(turns.value))),
-    )
+    let turns = match words::word_count(line) {
+        1 => 1,
+        2 => words::number_at(line, 1, 0xFFFFF)?,
+        _ => return None,
+    };
+    Some(Line::Asks(CallLine::Plain(PlainCall::Tick(turns))))
 }
 
-pub fn epc_line(line: &[u8]) -> Line
+#[tactic(auto, unfolding(crate::specs::Commands::epc_line))]
+pub fn epc_line(line: &[u8]) -> Option<Line>
     ensures { result ≡ epc_line line.now }
 {
-    let command = words::byte_at(line, 1);
-    let feature = words::byte_at(line, 2);
-    let count = words::byte_at(line, 3);
-    let lba = words::number_at(line, 4, 0xFFFFFFFF);
-    let n = words::word_count(line);
-    let good = (n == 5) & command.good & feature.good & count.good & lba.good;
+    if words::word_count(line) != 5 {
+        return None;
+    }
     let registers = Registers {
-        command: command.value,
-        feature: feature.value,
-        count: count.value,
-        lba: lba.value,
+        command: words::byte_at(line, 1)?,
+        feature: words::byte_at(line, 2)?,
+        count: words::byte_at(line, 3)?,
+        lba: words::number_at(line, 4, 0xFFFFFFFF)?,
     };
-    asked::offered(good, Line::Asks(CallLine::Plain(PlainCall::Epc(registers))))
+    Some(Line::Asks(CallLine::Plain(PlainCall::Epc(registers))))
 }
 
 // The host of a command that takes a host and no more.
-fn only_host(line: &[u8]) -> Number
+fn only_host(line: &[u8]) -> Option<u32>
     ensures { result ≡ only_host line.now }
 {
-    let n = words::word_count(line);
-    let host = words::number_at(line, 1, 0xFF);
-    Number {
-        good: (n == 2) & host.good,
-        value: host.value,
+    if words::word_count(line) != 2 {
+        return None;
     }
+    words::number_at(line, 1, 0xFF)
 }
 
-pub fn read_line(line: &[u8]) -> Line
+#[tactic(auto, unfolding(crate::specs::Commands::read_line))]
+pub fn read_line(line: &[u8]) -> Option<Line>
     ensures { result ≡ read_line line.now }
 {
-    let host = only_host(line);
-    asked::offered(
-        host.good,
-        Line::Asks(CallLine::Plain(PlainCall::Read(host.value))),
-    )
+    let host = only_host(line)?;
+    Some(Line::Asks(CallLine::Plain(PlainCall::Read(host))))
 }
 
-pub fn write_line(line: &[u8]) -> Line
+#[tactic(auto, unfolding(crate::specs::Commands::write_line))]
+pub fn write_line(line: &[u8]) -> Option<Line>
     ensures { result ≡ write_line line.now }
 {
-    let host = only_host(line);
-    asked::offered(
-        host.good,
-        Line::Asks(CallLine::Plain(PlainCall::Write(host.value))),
-    )
+    let host = only_host(line)?;
+    Some(Line::Asks(CallLine::Plain(PlainCall::Write(host))))
 }
 
-pub fn next_line(line: &[u8]) -> Line
+#[tactic(auto, unfolding(crate::specs::Commands::next_line))]
+pub fn next_line(line: &[u8]) -> Option<Line>
     ensures { result ≡ next_line line.now }
 {
-    let host = only_host(line);
-    asked::offered(host.good, Line::Asks(CallLine::Next(host.value)))
+    let host = only_host(line)?;
+    Some(Line::Asks(CallLine::Next(host)))
 }
 
-fn reset_call(place: usize) -> PlainCall
-    ensures { result ≡ Commands.reset_call place }
-{
-    match place {
-        0 => PlainCall::PowerOn,
-        1 => PlainCall::HardReset,
-        _ => PlainCall::SoftReset,
-    }
-}
-
-pub fn reset_line(line: &[u8]) -> Line
+#[tactic(auto, unfolding(crate::specs::Commands::reset_line, words::specs::Words::words, words::specs::Words::pieces, words::specs::Words::nonempty))]
+pub fn reset_line(line: &[u8]) -> Option<Line>
     ensures { result ≡ reset_line line.now }
 {
-    let n = words::word_count(line);
-    let place = words::name_at(line, 1, b"power hard soft");
-    asked::offered(
-        (n == 2) & (place < 3),
-        Line::Asks(CallLine::Plain(reset_call(place))),
-    )
+    if words::word_count(line) != 2 {
+        return None;
+    }
+    let resets = [PlainCall::PowerOn, PlainCall::HardReset, PlainCall::SoftReset];
+    let reset = asked::kind_at(line, 1, b"power hard soft", resets)?;
+    Some(Line::Asks(CallLine::Plain(reset)))
 }
 
-fn reply_from(place: usize) -> Reply
-    ensures { result ≡ reply_from place }
-{
-    if place == 0 { Reply::Good } else { Reply::Bad }
-}
-
-pub fn answer_line(line: &[u8]) -> Line
+#[tactic(auto, unfolding(crate::specs::Commands::answer_line, words::specs::Words::words, words::specs::Words::pieces, words::specs::Words::nonempty))]
+pub fn answer_line(line: &[u8]) -> Option<Line>
     ensures { result ≡ answer_line line.now }
 {
-    let n = words::word_count(line);
-    let host = words::number_at(line, 1, 0xFF);
-    let place = words::name_at(line, 2, b"good bad");
-    let reply = reply_from(place);
-    asked::offered(
-        (n == 3) & host.good & (place < 2),
-        Line::Asks(CallLine::Answer(host.value, reply)),
-    )
+    if words::word_count(line) != 3 {
+        return None;
+    }
+    let host = words::number_at(line, 1, 0xFF)?;
+    let reply = asked::kind_at(line, 2, b"good bad", [Reply::Good, Reply::Bad])?;
+    Some(Line::Asks(CallLine::Answer(host, reply)))
 }
 
-pub fn sense_line(line: &[u8]) -> Line
+#[tactic(auto, unfolding(crate::specs::Commands::sense_line))]
+pub fn sense_line(line: &[u8]) -> Option<Line>
     ensures { result ≡ sense_line line.now }
 {
-    let n = words::word_count(line);
-    let host = words::number_at(line, 1, 0xFF);
-    let len = words::number_at(line, 2, 0x400);
-    asked::offered(
-        (n == 3) & host.good & len.good,
-        Line::Asks(CallLine::Sense(host.value, len.value)),
-    )
+    if words::word_count(line) != 3 {
+        return None;
+    }
+    let host = words::number_at(line, 1, 0xFF)?;
+    let len = words::number_at(line, 2, 0x400)?;
+    Some(Line::Asks(CallLine::Sense(host, len)))
 }
 
 // The length of a command that takes a length and no more.
-fn only_length(line: &[u8]) -> Number
+fn only_length(line: &[u8]) -> Option<u32>
     ensures { result ≡ only_length line.now }
 {
-    let n = words::word_count(line);
-    let len = words::number_at(line, 1, 0x400);
-    Number {
-        good: (n == 2) & len.good,
-        value: len.value,
+    if words::word_count(line) != 2 {
+        return None;
     }
+    words::number_at(line, 1, 0x400)
 }
 
-pub fn log_line(line: &[u8]) -> Line
+#[tactic(auto, unfolding(crate::specs::Commands::log_line))]
+pub fn log_line(line: &[u8]) -> Option<Line>
     ensures { result ≡ log_line line.now }
 {
-    let len = only_length(line);
-    asked::offered(len.good, Line::Asks(CallLine::Log(len.value)))
+    let len = only_length(line)?;
+    Some(Line::Asks(CallLine::Log(len)))
 }
 
-pub fn transitions_line(line: &[u8]) -> Line
+#[tactic(auto, unfolding(crate::specs::Commands::transitions_line))]
+pub fn transitions_line(line: &[u8]) -> Option<Line>
     ensures { result ≡ transitions_line line.now }
 {
-    let len = only_length(line);
-    asked::offered(len.good, Line::Asks(CallLine::Transitions(len.value)))
+    let len = only_length(line)?;
+    Some(Line::Asks(CallLine::Transitions(len)))
 }
 
-pub fn new_page_line(line: &[u8]) -> Line
+#[tactic(auto, unfolding(crate::specs::Commands::new_page_line))]
+pub fn new_page_line(line: &[u8]) -> Option<Line>
     ensures { result ≡ new_page_line line.now }
 {
-    let n = words::word_count(line);
-    let page = words::number_at(line, 1, 0xFF);
-    let len = words::number_at(line, 2, 0x400);
-    asked::offered(
-        (n == 3) & page.good & len.good,
-        Line::Asks(CallLine::NewPage(page.value, len.value)),
-    )
+    if words::word_count(line) != 3 {
+        return None;
+    }
+    let page = words::number_at(line, 1, 0xFF)?;
+    let len = words::number_at(line, 2, 0x400)?;
+    Some(Line::Asks(CallLine::NewPage(page, len)))
 }
 
 // Manufacture's first line: those of the conditions follow, up to `end`.
-pub fn make_line(line: &[u8]) -> Line
+#[tactic(auto, unfolding(crate::specs::Commands::make_line))]
+pub fn make_line(line: &[u8]) -> Option<Line>
     ensures { result ≡ make_line line.now }
 {
-    let n = words::word_count(line);
-    let published = words::flag_at(line, 1);
-    asked::offered(
-        (n == 2) & published.good,
-        Line::Makes(asked::edition_from(published.value)),
-    )
+    if words::word_count(line) != 2 {
+        return None;
+    }
+    let published = words::flag_at(line, 1)?;
+    Some(Line::Makes(asked::edition_from(published)))
 }
 
-// The bytes from word 2 on; none if one of them is no byte or there are more than 40.
-fn cdb_in(line: &[u8]) -> ReadCdb
-    ensures { (result.good ≡ is_cdb line.now) × (take result.len result.bytes ≡ cdb_in line.now) × (result.len ≤ 40) }
+// The bytes from word 2 on, if each of these is one and there are no more than 40.
+fn cdb_in(line: &[u8]) -> Option<CdbBytes>
+    ensures spelled { is_some result ≡ is_cdb line.now }
+    ensures told { MatchOption result (cdb_in line.now ≡ []) (λ cdb. (take cdb.len cdb.bytes ≡ cdb_in line.now) × (cdb.len ≤ 40)) }
 {
-    let n = words::word_count(line);
-    let mut bytes = [0u8; 40];
-    let mut good = n <= 42;
-    let mut len = 0;
-    while good & (len + 2 < n) {
-        let b = words::byte_at(line, len + 2);
-        bytes[len] = b.value;
-        good = b.good;
-        len += 1;
+    let len = words::word_count(line).saturating_sub(2);
+    let mut bytes = [0; 40];
+    if len > 40 {
+        return None;
     }
-    let kept = if good { len } else { 0 };
-    ReadCdb {
-        good,
-        bytes,
-        len: kept,
+    for i in 0..len {
+        bytes[i] = words::byte_at(line, i + 2)?;
     }
+    Some(CdbBytes { bytes, len })
 }
 
-pub fn start_stop_line(line: &[u8]) -> Line
+#[tactic(auto, unfolding(crate::specs::Commands::start_stop_line))]
+pub fn start_stop_line(line: &[u8]) -> Option<Line>
     ensures { result ≡ start_stop_line line.now }
 {
-    let host = words::number_at(line, 1, 0xFF);
-    let bytes = cdb_in(line);
-    asked::offered(
-        host.good & bytes.good,
-        Line::Asks(CallLine::StartStop(host.value)),
-    )
+    let host = words::number_at(line, 1, 0xFF)?;
+    cdb_in(line)?;
+    Some(Line::Asks(CallLine::StartStop(host)))
 }
 
 // The bytes of START STOP UNIT on a line.
-pub fn cdb(text: &[u8]) -> ReadCdb
-    ensures { (take result.len result.bytes ≡ cdb_in (line_in text.now)) × (result.len ≤ 40) × (result.good ≡ is_cdb (line_in text.now)) }
+pub fn cdb(text: &[u8]) -> Option<CdbBytes>
+    ensures spelled { is_some result ≡ is_cdb (line_in text.now) }
+    ensures told { MatchOption result (cdb_in (line_in text.now) ≡ []) (λ cdb. (take cdb.len cdb.bytes ≡ cdb_in (line_in text.now)) × (cdb.len ≤ 40)) }
 {
     let end = words::without_return(text);
     cdb_in(&text[..end])

@@ -11,28 +11,28 @@ ghost use Rattle.drive.specs.Records.{largest_timer, setting_well_formed, number
 use conditions::{Cause, Power};
 
 // The edition of the standard that the drive follows: e08120r9, the draft, or published ACS-2 (document 02, request (vi)).
-#[derive(Clone, Copy)]
+#[derive(Clone, Copy, PartialEq, Eq)]
 pub enum Edition {
     Draft,
     Published,
 }
 
 // Timers and the idle count: tenths of a second. 32 bits: published timers need them, and a number above the largest can be said and refused.
-#[derive(Clone, Copy)]
+#[derive(Clone, Copy, PartialEq, Eq)]
 pub struct Tenths(pub u32);
 
 // Recovery times: milliseconds.
-#[derive(Clone, Copy)]
+#[derive(Clone, Copy, PartialEq, Eq)]
 pub struct Millis(pub u32);
 
-#[derive(Clone, Copy)]
+#[derive(Clone, Copy, PartialEq, Eq)]
 pub struct Setting {
     pub enabled: bool,
     pub timer: Tenths,
 }
 
 // A condition's record.
-#[derive(Clone, Copy)]
+#[derive(Clone, Copy, PartialEq, Eq)]
 pub struct Record {
     pub supported: bool,
     pub saveable: bool,
@@ -44,7 +44,7 @@ pub struct Record {
 }
 
 // The transition counts are "kept flat inside the record", and go as a table of six rows of two between functions.
-#[derive(Clone, Copy)]
+#[derive(Clone, Copy, PartialEq, Eq)]
 pub struct Drive {
     pub records: [Record; 5],
     pub power: Power,
@@ -53,7 +53,7 @@ pub struct Drive {
 }
 
 // What the maker says of a condition.
-#[derive(Clone, Copy)]
+#[derive(Clone, Copy, PartialEq, Eq)]
 pub struct Made {
     pub supported: bool,
     pub saveable: bool,
@@ -138,47 +138,32 @@ fn record_ok(top: Tenths, r: Record) -> bool
 fn records_ok(top: Tenths, records: [Record; 5]) -> bool
     ensures { result ≡ records_well_formed top.0 records }
 {
-    let mut ok = true;
-    let mut i = 0;
-    while i < 5 {
-        let good = record_ok(top, records[i]);
-        ok = ok & good;
-        i += 1;
-    }
-    ok
+    records.iter().all(|r| record_ok(top, *r))
 }
 
 // Whether every number and flag of the drive is one that document 01 allows, with this largest timer.
 pub fn drive_ok(top: Tenths, d: Drive) -> bool
     ensures { result ≡ drive_well_formed top.0 d }
 {
-    let records = d.records;
-    records_ok(top, records) & (d.idle.0 <= top.0)
+    records_ok(top, d.records) & (d.idle.0 <= top.0)
 }
 
 // Every change of condition goes through here, and is counted here alone.
 pub fn enter(d: Drive, p: Power) -> Drive
     ensures { result ≡ entered p d }
 {
-    let records = d.records;
-    let before = d.power;
-    let idle = d.idle;
-    let counts = d.counts;
-    let counted = transitions::count_entry(transitions::table_of(counts), before, p);
+    let counted = transitions::count_entry(transitions::table_of(d.counts), d.power, p);
     Drive {
-        records,
         power: p,
-        idle,
         counts: transitions::flat_of(counted),
+        ..d
     }
 }
 
 pub fn with_idle(d: Drive, n: Tenths) -> Drive
     ensures { result ≡ with_idle n.0 d }
 {
-    let mut e = d;
-    e.idle = n;
-    e
+    Drive { idle: n, ..d }
 }
 
 pub fn restart(d: Drive) -> Drive
@@ -198,26 +183,23 @@ pub fn zero_unless(kept: bool, n: Tenths) -> Tenths
 pub fn with_counts(d: Drive, counts: [u32; 12]) -> Drive
     ensures { result ≡ with_counts counts d }
 {
-    let mut e = d;
-    e.counts = counts;
-    e
+    Drive { counts, ..d }
 }
 
 pub fn with_records(d: Drive, records: [Record; 5]) -> Drive
     ensures { result ≡ with_records records d }
 {
-    let mut e = d;
-    e.records = records;
-    e
+    Drive { records, ..d }
 }
 
 pub fn with_settings(r: Record, saved: Setting, current: Setting) -> Record
     ensures { result ≡ with_settings saved current r }
 {
-    let mut s = r;
-    s.saved = saved;
-    s.current = current;
-    s
+    Record {
+        saved,
+        current,
+        ..r
+    }
 }
 
 // One more tenth; at the largest the count stays.
@@ -238,14 +220,10 @@ fn ran_out(count: Tenths, r: Record) -> bool
 pub fn depth_asked(records: [Record; 5], count: Tenths) -> usize
     ensures { (timers_ask records count.0 ≡ by_timer result) × (result ≤ 5) }
 {
-    let mut depth = 5;
-    while 0 < depth {
-        if ran_out(count, records[depth - 1]) {
-            return depth;
-        }
-        depth -= 1;
+    match records.iter().rposition(|r| ran_out(count, *r)) {
+        Some(place) => place + 1,
+        None => 0,
     }
-    0
 }
 
 // Where timers that ask for this depth, 0 for none, leave the power: a timer only ever lowers it.
@@ -271,8 +249,7 @@ pub fn move_to(d: Drive, p: Power, n: Tenths) -> Drive
 pub fn use_unless(d: Drive, kept: bool) -> Drive
     ensures { result ≡ cond kept d (used d) }
 {
-    let idle = d.idle;
-    let next = with_idle(d, zero_unless(kept, idle));
+    let next = with_idle(d, zero_unless(kept, d.idle));
     if kept {
         next
     } else {
@@ -286,64 +263,52 @@ pub fn pick_setting(b: bool, x: Setting, y: Setting) -> Setting
     if b { x } else { y }
 }
 
+fn restored(r: Record) -> Record
+    ensures { result ≡ saved_restored 0 r }
+{
+    with_settings(r, r.saved, r.saved)
+}
+
 // "current becomes saved for all five", unless they are kept.
 fn restore_unless(kept: bool, records: [Record; 5]) -> [Record; 5]
     ensures { result ≡ cond kept records (map_at saved_restored 0 records) }
 {
-    let mut next = records;
-    let mut i = 0;
-    while i < 5 {
-        let r = records[i];
-        next[i] = with_settings(r, r.saved, pick_setting(kept, r.current, r.saved));
-        i += 1;
-    }
-    next
+    if kept { records } else { records.map(restored) }
 }
 
 // Power came on, unless the drive is kept as it is.
 pub fn power_on_unless(d: Drive, kept: bool) -> Drive
     ensures { result ≡ cond kept d (powered_on d) }
 {
-    let records = d.records;
-    use_unless(with_records(d, restore_unless(kept, records)), kept)
+    use_unless(with_records(d, restore_unless(kept, d.records)), kept)
 }
 
 fn made_record(m: Made) -> Record
     ensures { result ≡ made_record 0 m }
 {
-    let default = m.default;
-    let recovery = m.recovery;
     Record {
         supported: m.supported,
         saveable: m.saveable,
         changeable: m.changeable,
-        recovery,
-        default,
-        saved: default,
-        current: default,
+        recovery: m.recovery,
+        default: m.default,
+        saved: m.default,
+        current: m.default,
     }
 }
 
 fn made_records(made: [Made; 5]) -> [Record; 5]
     ensures { result ≡ map_at made_record 0 made }
 {
-    let first = made_record(made[0]);
-    let mut records = [first; 5];
-    let mut i = 0;
-    while i < 5 {
-        records[i] = made_record(made[i]);
-        i += 1;
-    }
-    records
+    made.map(made_record)
 }
 
 // Current, saved and default agree; Active, idle count 0, nothing counted.
 pub fn manufacture(made: [Made; 5]) -> Drive
     ensures { result ≡ Drives.made made }
 {
-    let records = made_records(made);
     Drive {
-        records,
+        records: made_records(made),
         power: Power::Active,
         idle: Tenths(0),
         counts: [0; 12],

@@ -1,5 +1,5 @@
 -- The whole outcome of each call that needs no START STOP UNIT and no buffer: document 01, "EPC registers" and "Ticks, medium calls, resets".
-use Rattle.std.specs.Prelude.{true, false, cond, List, ℕ}
+use Rattle.std.specs.Prelude.{true, false, cond, List, ℕ, Ok, Err}
 use Rattle.drive.specs.Drives.{ticked, used, powered_on}
 use Rattle.drive.specs.declared.Edition.{Edition}
 use Rattle.drive.specs.declared.Made.{Made}
@@ -11,10 +11,9 @@ use Rattle.refusals.specs.Refusals.{Row, is_same, lowest}
 use Rattle.refusals.specs.Verdicts.{rows_of_record, rows_of_epc, rows_of_medium}
 use Rattle.refusals.specs.declared.Refusal.{Refusal}
 use Rattle.refusals.specs.declared.Refusal.TheVariants.{Aborted}
-use Rattle.refusals.specs.declared.Verdict.{Verdict}
-use Rattle.refusals.specs.declared.Verdict.TheVariants.{Clear, Given}
 use Rattle.outcomes.specs.declared.Called.{Called}
 use Rattle.unit.specs.declared.Unit.{Unit}
+use Rattle.refusals.specs.Refusals.{Verdict}
 
 -- ---- manufacture
 
@@ -36,8 +35,8 @@ abbrev pub epc_refused : Refusal → Unit → Unit
 epc_refused r u = cond (is_same r Aborted) (rested u) u
 
 abbrev pub epc_settled : Unit → Unit → Verdict → Called
-epc_settled u effect Clear = settled u effect Clear
-epc_settled u effect (Given r) = settled (epc_refused r u) effect (Given r)
+epc_settled u effect (Ok _) = settled u effect (Ok tt)
+epc_settled u effect (Err r) = settled (epc_refused r u) effect (Err r)
 
 unfoldable pub epc_outcome : Unit → Registers → Called
 epc_outcome u q = epc_settled u (epc_effect q u) (lowest (epc_rows u q))

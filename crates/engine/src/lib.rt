@@ -9,7 +9,7 @@ ghost use Rattle.unit.specs.Units.{blank};
 use conditions::Power;
 use drive::{Edition, Made, Tenths};
 use outcomes::Called;
-use refusals::{Answer, Refusal, Verdict};
+use refusals::Refusal;
 use registers::Registers;
 use unit::Unit;
 
@@ -31,7 +31,7 @@ pub fn manufacture(edition: Edition, made: [Made; 5]) -> Called
     let u = unit::made_unit(edition, made);
     let ok = unit::unit_ok(u);
     let v = refusals::record_verdict(ok);
-    outcomes::settle(v, blank_if(refusals::is_given(v), edition, u))
+    outcomes::settle(v, blank_if(v.is_err(), edition, u))
 }
 
 fn epc_effect(u: Unit, q: Registers) -> Unit
@@ -62,17 +62,17 @@ pub fn set_features(u: Unit, q: Registers) -> Called
     let out = u.out;
     let v = refusals::epc_verdict(ok, unit::is_out(out), epc::aborts(edition, q, records));
     match v {
-        Verdict::Clear => {
+        Ok(()) => {
             let changed = epc_effect(u, q);
             Called {
-                answer: Answer::Done,
+                answer: Ok(()),
                 unit: changed,
             }
         }
-        Verdict::Given(r) => {
+        Err(r) => {
             let kept = epc_refused(u, r);
             Called {
-                answer: Answer::Refused(r),
+                answer: Err(r),
                 unit: kept,
             }
         }
@@ -110,7 +110,7 @@ pub fn tick(u: Unit) -> Called
     let power = d.power;
     let out = u.out;
     let v = refusals::record_verdict(ok);
-    let still = refusals::is_given(v) | unit::is_out(out);
+    let still = v.is_err() | unit::is_out(out);
     let n = ticked_idle(still, u.drive.idle, next);
     let p = ticked_power(still, power, asked);
     outcomes::settle(v, unit::with_drive(u, drive::move_to(d, p, n)))
@@ -138,7 +138,7 @@ pub fn read(u: Unit, host: u32) -> Called
     let ok = unit::unit_ok(u);
     let out = u.out;
     let v = refusals::medium_verdict(host, ok, unit::is_out(out), u.stopped);
-    outcomes::settle(v, read_unless(u, refusals::is_given(v)))
+    outcomes::settle(v, read_unless(u, v.is_err()))
 }
 
 // A host has written to the medium: what it wrote is unsaved until a flush is answered good.
@@ -148,7 +148,7 @@ pub fn write(u: Unit, host: u32) -> Called
     let ok = unit::unit_ok(u);
     let out = u.out;
     let v = refusals::medium_verdict(host, ok, unit::is_out(out), u.stopped);
-    outcomes::settle(v, write_unless(u, refusals::is_given(v)))
+    outcomes::settle(v, write_unless(u, v.is_err()))
 }
 
 // "no operation, command out, deferred sense, stopped or unsaved mark", unless the record is kept as it is.
@@ -169,7 +169,7 @@ pub fn power_on(u: Unit) -> Called
 {
     let ok = unit::unit_ok(u);
     let v = refusals::record_verdict(ok);
-    outcomes::settle(v, power_on_unless(u, refusals::is_given(v)))
+    outcomes::settle(v, power_on_unless(u, v.is_err()))
 }
 
 // "idle count 0; operations, command out and deferred senses go", unless the record is kept as it is.
@@ -184,7 +184,7 @@ pub fn hard_reset(u: Unit) -> Called
 {
     let ok = unit::unit_ok(u);
     let v = refusals::record_verdict(ok);
-    outcomes::settle(v, hard_reset_unless(u, refusals::is_given(v)))
+    outcomes::settle(v, hard_reset_unless(u, v.is_err()))
 }
 
 // A software reset is its own call with the effect of a hardware reset.

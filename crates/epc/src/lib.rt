@@ -12,8 +12,9 @@ ghost use Rattle.registers.specs.declared.Named.TheVariants.{One, Every};
 use conditions::{Cause, Condition, Power};
 use drive::{Drive, Edition, Record, Setting, Tenths};
 use registers::{Named, Registers};
+use std::array;
 
-#[derive(Clone, Copy)]
+#[derive(Clone, Copy, PartialEq, Eq)]
 pub enum Sub {
     Restore,
     GoTo,
@@ -68,25 +69,13 @@ fn reserved_in_lba(e: Edition, sub: Sub, lba: u32) -> bool
 fn is_unknown(sub: Sub) -> bool
     ensures { result ≡ is_unknown sub }
 {
-    match sub {
-        Sub::Restore => false,
-        Sub::GoTo => false,
-        Sub::SetTimer => false,
-        Sub::SetState => false,
-        Sub::Unknown => true,
-    }
+    sub == Sub::Unknown
 }
 
 fn is_go_to(sub: Sub) -> bool
     ensures { result ≡ is_go_to sub }
 {
-    match sub {
-        Sub::Restore => false,
-        Sub::GoTo => true,
-        Sub::SetTimer => false,
-        Sub::SetState => false,
-        Sub::Unknown => false,
-    }
+    sub == Sub::GoTo
 }
 
 // Whether a subcommand with this Count selects the condition at a place; FFh "the supported and changeable conditions" (document 02, request (iv)). The
@@ -116,62 +105,37 @@ fn barred(goes: bool, save: bool, r: Record) -> bool
     !r.supported | (!goes & !r.changeable) | (save & !r.saveable)
 }
 
-// What the conditions that FFh selects say together: whether there is one, and whether one of them bars the subcommand.
-#[derive(Clone, Copy)]
-struct Seen {
-    some: bool,
-    barred: bool,
+// Whether FFh selects a condition.
+fn any_selected(sub: Sub, records: [Record; 5]) -> bool
+    ensures { result ≡ some_at (Epc.selects sub Every) 0 records }
+{
+    records
+        .iter()
+        .enumerate()
+        .any(|(place, r)| selects(sub, Named::Every, place, *r))
 }
 
-fn look(sub: Sub, save: bool, records: [Record; 5]) -> Seen
-    ensures { (result.some ≡ some_at (Epc.selects sub Every) 0 records) × (result.barred ≡ some_at (Inner.selected_barred sub Every save) 0 records) }
+// Whether a condition that FFh selects bars the subcommand.
+fn any_barred(sub: Sub, save: bool, records: [Record; 5]) -> bool
+    ensures { result ≡ some_at (Inner.selected_barred sub Every save) 0 records }
 {
     let goes = is_go_to(sub);
-    let mut some = false;
-    let mut bars = false;
-    let mut i = 0;
-    while i < 5 {
-        let r = records[i];
-        let selected = selects(sub, Named::Every, i, r);
-        some = some | selected;
-        bars = bars | (selected & barred(goes, save, r));
-        i += 1;
-    }
-    Seen { some, barred: bars }
+    records.iter().enumerate().any(|(place, r)| selects(sub, Named::Every, place, *r)
+        & barred(goes, save, *r))
 }
 
 // FFh: a go to, no condition selected, or one that bars the subcommand.
 fn every_unfit(sub: Sub, save: bool, records: [Record; 5]) -> bool
     ensures { result ≡ Inner.unfit sub Every save records }
 {
-    if is_go_to(sub) {
-        true
-    } else {
-        let seen = look(sub, save, records);
-        !seen.some | seen.barred
-    }
+    is_go_to(sub) || !any_selected(sub, records) || any_barred(sub, save, records)
 }
 
-// At the place that is asked for the record has its say; elsewhere what was said before stays.
-fn bars_at(here: bool, goes: bool, save: bool, r: Record, before: bool) -> bool
-    ensures { result ≡ cond here (Inner.barred goes save r) before }
-{
-    if here { barred(goes, save, r) } else { before }
-}
-
-// The one condition that Count names. A walk of all places: no copy of the records is made to look into.
+// The one condition that Count names.
 fn one_unfit(sub: Sub, save: bool, records: [Record; 5], c: Condition) -> bool
     ensures { result ≡ Inner.unfit sub (One c) save records }
 {
-    let goes = is_go_to(sub);
-    let at = conditions::place_of(c);
-    let mut bars = false;
-    let mut i = 0;
-    while i < 5 {
-        bars = bars_at(i == at, goes, save, records[i], bars);
-        i += 1;
-    }
-    bars
+    barred(is_go_to(sub), save, records[conditions::place_of(c)])
 }
 
 // Count against the subcommand and the records.
@@ -201,17 +165,14 @@ pub fn aborts(e: Edition, q: Registers, records: [Record; 5]) -> bool
 fn set_current(lba: u32, saved: Setting, current: Setting, r: Record) -> Record
     ensures { result ≡ with_settings (saved_too lba saved r) current r }
 {
-    let kept = r.saved;
-    drive::with_settings(r, drive::pick_setting(save(lba), saved, kept), current)
+    drive::with_settings(r, drive::pick_setting(save(lba), saved, r.saved), current)
 }
 
 // From default with bit 6, else from saved.
 fn restored_from(lba: u32, r: Record) -> Setting
     ensures { result ≡ restored_from lba r }
 {
-    let default = r.default;
-    let saved = r.saved;
-    drive::pick_setting((lba >> 6) % 2 != 0, default, saved)
+    drive::pick_setting((lba >> 6) % 2 != 0, r.default, r.saved)
 }
 
 // Bits 23:8 are the timer: in minutes with bit 7, which only a published unit takes.
@@ -237,9 +198,10 @@ fn timer_set(lba: u32) -> Setting
 fn flag_set(lba: u32, s: Setting) -> Setting
     ensures { result ≡ flag_set lba s }
 {
-    let mut t = s;
-    t.enabled = ((lba >> 5) % 2 != 0) & (s.timer.0 != 0);
-    t
+    Setting {
+        enabled: ((lba >> 5) % 2 != 0) & (s.timer.0 != 0),
+        ..s
+    }
 }
 
 // The effect on a selected condition.
@@ -275,16 +237,9 @@ fn change_at(sub: Sub, n: Named, lba: u32, place: usize, r: Record) -> Record
 fn change_all(q: Registers, records: [Record; 5]) -> [Record; 5]
     ensures { result ≡ map_at (changed_at q) 0 records }
 {
-    let lba = q.lba;
-    let sub = sub_of(lba);
+    let sub = sub_of(q.lba);
     let n = registers::named_by(q.count);
-    let mut next = records;
-    let mut i = 0;
-    while i < 5 {
-        next[i] = change_at(sub, n, lba, i, records[i]);
-        i += 1;
-    }
-    next
+    array::from_fn(|place| change_at(sub, n, q.lba, place, records[place]))
 }
 
 // The condition that Count names, cause command; else the power as it is.
@@ -302,8 +257,7 @@ fn power_named(n: Named, p: Power) -> Power
 fn go_to(d: Drive, n: Named) -> Drive
     ensures { result ≡ gone_to n d }
 {
-    let power = d.power;
-    drive::enter(d, power_named(n, power))
+    drive::enter(d, power_named(n, d.power))
 }
 
 // A subcommand that is not aborted; the idle count restarts.
@@ -314,7 +268,6 @@ pub fn perform(q: Registers, d: Drive) -> Drive
     if is_go_to(sub_of(q.lba)) {
         go_to(fresh, registers::named_by(q.count))
     } else {
-        let records = d.records;
-        drive::with_records(fresh, change_all(q, records))
+        drive::with_records(fresh, change_all(q, d.records))
     }
 }

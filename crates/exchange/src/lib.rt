@@ -1,29 +1,28 @@
 // A host's next command, and the drive's answer to it (T10 07-485r3, 05-226r3).
 #![tactic(auto)]
 
-ghost use Rattle.std.specs.Prelude.{cond, ◌≡◌, ℕ};
+ghost use Rattle.std.specs.Prelude.{cond, ◌≡◌, ℕ, Err, Some, None};
 ghost use Rattle.exchange.specs.Exchange.{next_effect, next_outcome, answer_on, answer_settled, answer_outcome};
 ghost use Rattle.exchange.specs.Answered.{flushed_well, failed, succeeded, flush_answered, last_answered, answered_for};
 ghost use Rattle.exchange.specs.Inner.{due_in, next_of, held_by, left};
-ghost use Rattle.operations.specs.declared.Progress.TheVariants.{NotTaken};
 ghost use Rattle.unit.specs.Units.{slot_of};
-ghost use Rattle.unit.specs.declared.Held.TheVariants.{Nothing, Holds};
 
 use conditions::Power;
-use operations::{Next, Progress};
-use refusals::{Refusal, Verdict};
+use operations::Progress;
+use refusals::Refusal;
+use registers::Registers;
 use requests::{Failure, Reply, Request};
-use unit::{Held, Out, Slot, Unit};
+use unit::{Slot, Unit};
 
 #[derive(Clone, Copy)]
 pub struct Asked {
-    pub answer: Next,
+    pub answer: Result<Registers, Refusal>,
     pub unit: Unit,
 }
 
 #[derive(Clone, Copy)]
 pub struct Replied {
-    pub answer: Progress,
+    pub answer: Result<Progress, Refusal>,
     pub unit: Unit,
 }
 
@@ -31,27 +30,25 @@ pub struct Replied {
 fn next_unless(u: Unit, kept: bool, host: u32) -> Unit
     ensures { result ≡ cond kept u (next_effect host u) }
 {
-    unit::with_out_unless(unit::rest_unless(u, kept), kept, Out::OutFor(host))
+    unit::with_out_unless(unit::rest_unless(u, kept), kept, Some(host))
 }
 
 // The command due from a waiting operation.
-fn due_in(unsaved: bool, s: Slot) -> Next
+fn due_in(unsaved: bool, s: Slot) -> Result<Registers, Refusal>
     ensures { result ≡ due_in unsaved s }
 {
     match s {
-        Slot::Empty => Next::NotSent(Refusal::HasNone),
-        Slot::Waiting(q) => Next::Send(operations::registers_of(operations::due_from(unsaved, q))),
+        Slot::Empty => Err(Refusal::HasNone),
+        Slot::Waiting(q) => Ok(operations::registers_of(operations::due_from(unsaved, q))),
     }
 }
 
 // The verdict's answer: its number, or the command due.
-fn next_of(v: Verdict, unsaved: bool, s: Slot) -> Next
+fn next_of(v: Result<(), Refusal>, unsaved: bool, s: Slot) -> Result<Registers, Refusal>
     ensures { result ≡ next_of v unsaved s }
 {
-    match v {
-        Verdict::Clear => due_in(unsaved, s),
-        Verdict::Given(r) => Next::NotSent(r),
-    }
+    v?;
+    due_in(unsaved, s)
 }
 
 // A host asks for its operation's next command, which is then out until the answer.
@@ -66,12 +63,12 @@ pub fn next_command(u: Unit, host: u32) -> Asked
     let v = refusals::next_verdict(host, ok, unit::is_out(out), waiting);
     Asked {
         answer: next_of(v, u.unsaved, s),
-        unit: next_unless(u, refusals::is_given(v) | !waiting, host),
+        unit: next_unless(u, v.is_err() | !waiting, host),
     }
 }
 
 // What an answer leaves, and what it tells. Where it is not taken, idle count, slot and what is out stay; power and marks are given either way.
-// `held` is a sense to hold now; with Nothing, what the host holds stays.
+// `held` is a sense to hold now; with none, what the host holds stays.
 #[derive(Clone, Copy)]
 struct After {
     taken: bool,
@@ -79,8 +76,8 @@ struct After {
     stopped: bool,
     unsaved: bool,
     slot: Slot,
-    held: Held,
-    answer: Progress,
+    held: Option<Failure>,
+    answer: Result<Progress, Refusal>,
 }
 
 // A good flush: nothing is unsaved, and the operation goes on.
@@ -93,16 +90,16 @@ fn flushed_well(u: Unit, q: Request) -> After
         stopped: u.stopped,
         unsaved: false,
         slot: Slot::Waiting(operations::flush_counted(q)),
-        held: Held::Nothing,
-        answer: Progress::More,
+        held: None,
+        answer: Ok(Progress::More),
     }
 }
 
 // With IMMED a failure is held for the host's REQUEST SENSE.
-fn held_if(immed: bool, f: Failure) -> Held
-    ensures { result ≡ cond immed (Holds f) Nothing }
+fn held_if(immed: bool, f: Failure) -> Option<Failure>
+    ensures { result ≡ cond immed (Some f) None }
 {
-    if immed { Held::Holds(f) } else { Held::Nothing }
+    if immed { Some(f) } else { None }
 }
 
 // The operation is over and failed: Active, marks as before.
@@ -118,7 +115,7 @@ fn fail(u: Unit, q: Request, flushes: u8) -> After
         unsaved: u.unsaved,
         slot: Slot::Empty,
         held: held_if(q.immed, f),
-        answer: Progress::Ended(operations::report_failed(q.immed, f, flushes)),
+        answer: Ok(Progress::Ended(operations::report_failed(q.immed, f, flushes))),
     }
 }
 
@@ -135,8 +132,11 @@ fn succeed(u: Unit, q: Request) -> After
         stopped: operations::is_stop(target),
         unsaved: u.unsaved,
         slot: Slot::Empty,
-        held: Held::Nothing,
-        answer: Progress::Ended(operations::report_good(q.immed, operations::flushes_of(stage))),
+        held: None,
+        answer: Ok(Progress::Ended(operations::report_good(
+            q.immed,
+            operations::flushes_of(stage),
+        ))),
     }
 }
 
@@ -175,7 +175,7 @@ fn answered_for(u: Unit, q: Request, reply: Reply) -> After
 
 // Refused: all stays.
 fn refuse(u: Unit, r: Refusal) -> After
-    ensures { (host : ℕ) → left u host result ≡ record { answer = NotTaken r; unit = u } }
+    ensures { (host : ℕ) → left u host result ≡ record { answer = Err r; unit = u } }
 {
     let d = u.drive;
     let power = d.power;
@@ -185,8 +185,8 @@ fn refuse(u: Unit, r: Refusal) -> After
         stopped: u.stopped,
         unsaved: u.unsaved,
         slot: Slot::Empty,
-        held: Held::Nothing,
-        answer: Progress::NotTaken(r),
+        held: None,
+        answer: Err(r),
     }
 }
 
@@ -200,22 +200,22 @@ fn answer_on(u: Unit, reply: Reply, s: Slot) -> After
 }
 
 // By the verdict; `s` is the host's slot.
-fn answer_settled(u: Unit, reply: Reply, s: Slot, v: Verdict) -> After
+fn answer_settled(u: Unit, reply: Reply, s: Slot, v: Result<(), Refusal>) -> After
     ensures { (host : ℕ) → slot_of u.slots host ≡ s → left u host result ≡ answer_settled u host reply v }
 {
     match v {
-        Verdict::Clear => answer_on(u, reply, s),
-        Verdict::Given(r) => refuse(u, r),
+        Ok(()) => answer_on(u, reply, s),
+        Err(r) => refuse(u, r),
     }
 }
 
-// "a failure is held as the host's deferred sense, replacing an older one"; with Nothing, what is held stays.
-fn hold(u: Unit, host: u32, h: Held) -> Unit
+// "a failure is held as the host's deferred sense, replacing an older one"; with none, what is held stays.
+fn hold(u: Unit, host: u32, h: Option<Failure>) -> Unit
     ensures { result ≡ held_by u host h }
 {
     match h {
-        Held::Nothing => u,
-        Held::Holds(f) => unit::with_held(u, host, Held::Holds(f)),
+        None => u,
+        Some(f) => unit::with_held(u, host, Some(f)),
     }
 }
 
@@ -235,7 +235,7 @@ fn leave(u: Unit, host: u32, a: After) -> Replied
     let waits = unit::with_slot_unless(marked, kept, host, slot);
     Replied {
         answer,
-        unit: unit::with_out_unless(hold(waits, host, held), kept, Out::NoneOut),
+        unit: unit::with_out_unless(hold(waits, host, held), kept, None),
     }
 }
 

@@ -1,6 +1,7 @@
 -- The tests of a record and of a setting in other words than their definitions', and the bits that are read and the kinds' numbers once more from the
 -- papers.
 use Rattle.std.proofs.Common.{◌≡◌, ℕ, ◌+◌, Bool, true, false, not, ◌&&◌, ◌⊎◌, ◌↔◌, List, [], ◌∷◌, map, sym, refl, ap, inl, inr, true≢false, eq-eqb, eqb-true}
+use Rattle.std.proofs.Math.Bool.{and-false}
 use mathlib.Core.Bool.{beq}
 use borrow.Author.Tests.{not-false}
 use Rattle.rows.proofs.Places.{and_left, and_right, and_both}
@@ -65,13 +66,9 @@ keeps_default r = (on r.saveable refl, back)
     on true e h = inl e
     on false e h = inr (same_setting r.saved r.default (not-false _ h))
 
-    neither : (a : Bool) → (a && false) ≡ false
-    neither true = refl
-    neither false = refl
-
     back : KeepsDefault r → is_saved_off r ≡ false
     back (inl e) = rw e
-    back (inr e) = rw (e, own_setting r.default) (neither (not r.saveable))
+    back (inr e) = rw (e, own_setting r.default) (and-false (not r.saveable))
 
 -- "in the order just named": the first of them is 0.
 pub kind_numbers : map kind_number (ReservedWord ∷ ReservedBits ∷ SetUnsupported ∷ NoTimer ∷ SavedOff ∷ []) ≡ 0 ∷ 1 ∷ 2 ∷ 3 ∷ 4 ∷ []

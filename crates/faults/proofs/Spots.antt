@@ -1,25 +1,28 @@
 -- The faults at a word, by where it stands: what can be wrong there, and nothing else.
-use Rattle.std.proofs.Common.{◌≡◌, ℕ, zero, suc, ◌+◌, ◌-◌, ◌*◌, ◌/◌, ◌%◌, ◌<◌, ◌≤◌, Bool, true, false, not, ◌&&◌, ◌||◌, eqb, ltb, leb, List, [], ◌++◌, sym, refl, ap, ◌∙◌, append_assoc, append-nil, arith, ltb-true, eqb-true, le-leb}
+use Rattle.std.proofs.Common.{◌≡◌, ℕ, zero, suc, ◌+◌, ◌-◌, ◌*◌, ◌%◌, ◌<◌, ◌≤◌, Bool, true, false, not, ◌&&◌, ◌||◌, eqb, ltb, leb, List, [], ◌++◌, sym, refl, ap, ◌∙◌, append_assoc, append-nil, arith, ltb-true, eqb-true, le-leb}
+use Rattle.std.proofs.Math.Bool.{or-false, or-true}
 use borrow.Author.Tests.{lt-leb}
 use Rattle.bits.specs.Bits.{some_one}
 use Rattle.rows.proofs.Places.{and_left, and_right}
 use Rattle.conditions.specs.Conditions.{condition_at}
 use Rattle.drive.specs.declared.Record.{Record}
+use Rattle.drive.specs.declared.Setting.{Setting}
 use Rattle.pages.specs.Logs.{log_place}
 use Rattle.pages.proofs.Words.{place_start}
 use Rattle.pages.specs.Readings.{page_word, page_setting, record_from, page_record}
 use Rattle.faults.specs.declared.Fault.{Fault}
 use Rattle.faults.specs.declared.FaultKind.{FaultKind}
 use Rattle.faults.specs.declared.FaultKind.TheVariants.{ReservedWord, ReservedBits, SetUnsupported, NoTimer, SavedOff}
-use Rattle.faults.specs.Inner.{Gathered, noted, added_if, nonzero_from, head_faults, setting_faults, named_faults}
-use Rattle.faults.specs.Listing.{faults_at, faults_from}
+use Rattle.faults.specs.declared.Faults.{Faults}
+use Rattle.faults.specs.Inner.{noted, added_if, nonzero_from, head_faults, setting_faults, named_faults}
+use Rattle.faults.specs.Listing.{faults_at, faults_from, faults_of, listing}
 use Rattle.faults.specs.Tests.{is_at, owner_of, is_reserved_word, is_set_unsupported, enabled_without_timer, is_saved_off, is_fault}
-use Rattle.faults.proofs.Noted.{noted_then}
-use Rattle.faults.proofs.Where.{is_at_lem, is_reserved, owner}
+use Rattle.faults.proofs.Noted.{noted_append, noted_listing, from_few}
+use Rattle.faults.proofs.Where.{is_at_lem, is_reserved, owner, past_reserved}
 
 -- ---- the list of so many words
 
-pub from_append : (page : List ℕ) (w n m : ℕ) → faults_from page w (n + m) ≡ faults_from page w n ++ faults_from page (w + n) m
+from_append : (page : List ℕ) (w n m : ℕ) → faults_from page w (n + m) ≡ faults_from page w n ++ faults_from page (w + n) m
 unfolding faults_from
 from_append page w zero m =
     let none : 0 + m ≡ m = omega arith in
@@ -30,15 +33,24 @@ from_append page w (suc n) m =
     let next : w + suc n ≡ suc w + n = omega arith in
     rw (more, next, from_append page (suc w) n m) (sym (append_assoc (faults_at page w) (faults_from page (suc w) n) (faults_from page (suc w + n) m)))
 
--- ---- reserved bits, as the code tests them
+-- No words,
+pub no_words : (page : List ℕ) (w : ℕ) → faults_from page w 0 ≡ []
+unfolding faults_from
+no_words page w = refl
 
--- Of +1, bits 12:0.
-pub head_bits : (n : ℕ) → not (eqb (n % 0x2000) 0) ≡ some_one 12 0 n
-head_bits n = let whole : n ≡ n / 1 = omega arith in ap (λ (k : ℕ). not (eqb (k % 0x2000) 0)) whole
+-- and all of them.
+pub every_word : (page : List ℕ) → faults_of page ≡ faults_from page 0 256
+unfolding faults_of
+every_word page = refl
 
--- Of +2, +4 and +6, bits 14:0.
-pub setting_bits : (n : ℕ) → not (eqb (n % 0x8000) 0) ≡ some_one 14 0 n
-setting_bits n = let whole : n ≡ n / 1 = omega arith in ap (λ (k : ℕ). not (eqb (k % 0x8000) 0)) whole
+-- The words from 0 on, and then so many more of them.
+pub listed_more : (page : List ℕ) (n k : ℕ) → n + k ≤ 256 → noted (listing (faults_from page 0 n)) (faults_from page n k) ≡ listing (faults_from page 0 (n + k))
+listed_more page n k few =
+    let start : 0 + n ≡ n = omega arith in
+    let first = from_few page 0 n in
+    let next = from_few page n k in
+    noted_listing (faults_from page 0 n) (faults_from page n k) (omega arith)
+    ∙ ap (λ (w : ℕ). listing (faults_from page 0 n ++ faults_from page w k)) (sym start) ∙ ap listing (sym (from_append page 0 n k))
 
 -- ---- a word by where it stands
 
@@ -74,22 +86,25 @@ at_spot page place k w h m e =
 
 -- ---- the named words of a condition
 
-or_false : (b : Bool) → (b || false) ≡ b
-or_false true = refl
-or_false false = refl
+-- One that may be wrong, and then the others.
+if_first : (b : Bool) (kind : FaultKind) (w : ℕ) (l : List Fault) → added_if b kind w l ≡ added_if b kind w [] ++ l
+if_first true kind w l = refl
+if_first false kind w l = refl
 
 -- At the condition's own flag word.
 head_spot : (page : List ℕ) (place : ℕ) → spot_faults page place 1 ≡ head_faults page (16 * place + 1) (record_from page (16 * place))
 head_spot page place =
     let w = 16 * place + 1 in
-    ap (λ (b : Bool). added_if b ReservedBits w (added_if (is_set_unsupported (record_from page (16 * place))) SetUnsupported w []))
-    (or_false (some_one 12 0 (page_word page w)))
+    let last = added_if (is_set_unsupported (record_from page (16 * place))) SetUnsupported w [] in
+    ap (λ (b : Bool). added_if b ReservedBits w last) (or-false (some_one 12 0 (page_word page w)))
+    ∙ if_first (some_one 12 0 (page_word page w)) ReservedBits w last
 
-if_append : (b : Bool) (kind : FaultKind) (w : ℕ) (l m : List Fault) → added_if b kind w l ++ m ≡ added_if b kind w (l ++ m)
-if_append true kind w l m = refl
-if_append false kind w l m = refl
+-- At a setting's,
+setting_spot : (page : List ℕ) (w : ℕ) (s : Setting)
+    → added_if (some_one 14 0 (page_word page w)) ReservedBits w (added_if (enabled_without_timer s) NoTimer w []) ≡ setting_faults page w s
+setting_spot page w s = if_first (some_one 14 0 (page_word page w)) ReservedBits w (added_if (enabled_without_timer s) NoTimer w [])
 
--- At saved's flag word, with kind 4 as the last.
+-- and at saved's with kind 4 as the last.
 abbrev off_faults : Record → ℕ → List Fault
 off_faults r w = added_if (is_saved_off r) SavedOff w []
 
@@ -101,7 +116,9 @@ saved_spot page place =
     let last = off_faults (record_from page (16 * place)) w in
     let timer = enabled_without_timer (page_setting page w) in
     let bits = some_one 14 0 (page_word page w) in
-    sym (if_append bits ReservedBits w (added_if timer NoTimer w []) last ∙ ap (added_if bits ReservedBits w) (if_append timer NoTimer w [] last))
+    let first = added_if bits ReservedBits w [] in
+    if_first bits ReservedBits w (added_if timer NoTimer w last) ∙ ap (λ (l : List Fault). first ++ l) (if_first timer NoTimer w last)
+    ∙ sym (append_assoc first (added_if timer NoTimer w []) last)
 
 named_eight : (page : List ℕ) (place : ℕ) → place < 5 → faults_from page (16 * place) 8 ≡ named_faults page (16 * place) (record_from page (16 * place))
 unfolding faults_from
@@ -110,11 +127,11 @@ named_eight page place h =
     let r = record_from page w in
     let zeroth = at_spot page place 0 w h (omega arith) (omega arith) in
     let first = at_spot page place 1 (suc w) h (omega arith) (omega arith) ∙ head_spot page place in
-    let second = at_spot page place 2 (suc (suc w)) h (omega arith) (omega arith) in
+    let second = at_spot page place 2 (suc (suc w)) h (omega arith) (omega arith) ∙ setting_spot page (w + 2) r.default in
     let third = at_spot page place 3 (suc (suc (suc w))) h (omega arith) (omega arith) in
     let fourth = at_spot page place 4 (suc (suc (suc (suc w)))) h (omega arith) (omega arith) ∙ saved_spot page place in
     let fifth = at_spot page place 5 (suc (suc (suc (suc (suc w))))) h (omega arith) (omega arith) in
-    let sixth = at_spot page place 6 (suc (suc (suc (suc (suc (suc w)))))) h (omega arith) (omega arith) in
+    let sixth = at_spot page place 6 (suc (suc (suc (suc (suc (suc w)))))) h (omega arith) (omega arith) ∙ setting_spot page (w + 6) r.current in
     let seventh = at_spot page place 7 (suc (suc (suc (suc (suc (suc (suc w))))))) h (omega arith) (omega arith) in
     let saved = setting_faults page (w + 4) r.saved in
     let current = setting_faults page (w + 6) r.current in
@@ -122,21 +139,11 @@ named_eight page place h =
     ∙ ap (λ (l : List Fault). head_faults page (w + 1) r ++ (setting_faults page (w + 2) r.default ++ l))
     (append_assoc saved (off_faults r (w + 4)) (current ++ []) ∙ ap (λ (l : List Fault). saved ++ (off_faults r (w + 4) ++ l)) (append-nil current))
 
--- A condition's sixteen words: the named ones, then the others.
-pub condition_words : (page : List ℕ) (place : ℕ) → place < 5
-    → faults_from page (16 * place) 16 ≡ named_faults page (16 * place) (record_from page (16 * place)) ++ faults_from page (16 * place + 8) 8
-condition_words page place h =
-    from_append page (16 * place) 8 8 ∙ ap (λ (l : List Fault). l ++ faults_from page (16 * place + 8) 8) (named_eight page place h)
-
 -- ---- reserved words
 
-or_true : (b : Bool) → (b || true) ≡ true
-or_true true = refl
-or_true false = refl
-
 -- Within the conditions, +8 to +15.
-pub other_reserved : (place w : ℕ) → 16 * place + 8 ≤ w → w < 16 * place + 16 → is_reserved_word w ≡ true
-other_reserved place w h m = rw (le-leb 8 (w % 16) (omega arith)) (or_true (leb 0x50 w))
+other_reserved : (place w : ℕ) → 16 * place + 8 ≤ w → w < 16 * place + 16 → is_reserved_word w ≡ true
+other_reserved place w h m = rw (le-leb 8 (w % 16) (omega arith)) (or-true (leb 0x50 w))
 
 not_named : (w k : ℕ) → k < 8 → is_reserved_word w ≡ true → is_at k w ≡ false
 not_named w k h e = on (is_at k w) refl
@@ -158,13 +165,24 @@ at_reserved page w e =
     by_tests_lem page w ∙ (λ i. by_tests (e i) (one i) (two i) (four i) (six i) (page_record page (owner_of w)) page w)
 
 -- So of reserved words the faults are those that are not zero.
-pub all_reserved : (page : List ℕ) (w n : ℕ) → ((v : ℕ) → w ≤ v → v < w + n → is_reserved_word v ≡ true) → faults_from page w n ≡ nonzero_from page w n
+all_reserved : (page : List ℕ) (w n : ℕ) → ((v : ℕ) → w ≤ v → v < w + n → is_reserved_word v ≡ true) → faults_from page w n ≡ nonzero_from page w n
 unfolding faults_from nonzero_from
 all_reserved page w zero each = refl
 all_reserved page w (suc n) each =
     let here = at_reserved page w (each w (omega arith) (omega arith)) in
     let rest = all_reserved page (suc w) n (λ v h m. each v (omega arith) (omega arith)) in
     λ i. here i ++ rest i
+
+-- A condition's sixteen words: the named ones, then the others.
+pub condition_words : (page : List ℕ) (place : ℕ) → place < 5
+    → faults_from page (16 * place) 16 ≡ named_faults page (16 * place) (record_from page (16 * place)) ++ nonzero_from page (16 * place + 8) 8
+condition_words page place h =
+    from_append page (16 * place) 8 8
+    ∙ (λ i. named_eight page place h i ++ all_reserved page (16 * place + 8) 8 (λ v at below. other_reserved place v at (omega arith)) i)
+
+-- The words after the conditions.
+pub past_words : (page : List ℕ) → nonzero_from page 80 176 ≡ faults_from page 80 176
+past_words page = sym (all_reserved page 80 176 (λ v at below. past_reserved v at))
 
 -- One more word looked at.
 nonzero_append : (page : List ℕ) (w n : ℕ)
@@ -179,14 +197,21 @@ nonzero_append page w (suc n) =
     rw next (ap (λ (l : List Fault). first ++ l) (nonzero_append page (suc w) n)
     ∙ sym (append_assoc first (nonzero_from page (suc w) n) (added_if (not (eqb (page_word page (suc w + n)) 0)) ReservedWord (suc w + n) [])))
 
-pub nonzero_more : (page : List ℕ) (from w : ℕ) (f₀ : Gathered) {f g : Gathered} (b : Bool) → from ≤ w
-    → f ≡ noted f₀ (nonzero_from page from (w - from)) → b ≡ not (eqb (page_word page w) 0) → g ≡ noted f (added_if b ReservedWord w [])
-    → g ≡ noted f₀ (nonzero_from page from (w + 1 - from))
-nonzero_more page from w f₀ b h before test after =
+pub nonzero_more : (page : List ℕ) (from w : ℕ) → from ≤ w
+    → nonzero_from page from (w + 1 - from) ≡ nonzero_from page from (w - from) ++ added_if (not (eqb (page_word page w) 0)) ReservedWord w []
+nonzero_more page from w h =
     let count : w + 1 - from ≡ suc (w - from) = omega arith in
     let place : from + (w - from) ≡ w = omega arith in
-    noted_then f₀ (nonzero_from page from (w - from)) (added_if b ReservedWord w []) before after
-    ∙ ap (λ (t : Bool). noted f₀ (nonzero_from page from (w - from) ++ added_if t ReservedWord w [])) test
-    ∙ ap (λ (v : ℕ). noted f₀ (nonzero_from page from (w - from) ++ added_if (not (eqb (page_word page v) 0)) ReservedWord v [])) (sym place)
-    ∙ ap (noted f₀) (sym (nonzero_append page from (w - from)))
-    ∙ ap (λ (n : ℕ). noted f₀ (nonzero_from page from n)) (sym count)
+    ap (nonzero_from page from) count ∙ nonzero_append page from (w - from)
+    ∙ ap (λ (v : ℕ). nonzero_from page from (w - from) ++ added_if (not (eqb (page_word page v) 0)) ReservedWord v []) place
+
+-- None looked at yet.
+pub noted_none : (f : Faults) (page : List ℕ) (from : ℕ) → noted f (nonzero_from page from (from - from)) ≡ f
+unfolding noted nonzero_from
+noted_none f page from = let none : from - from ≡ 0 = omega arith in rw none
+
+-- What a turn over reserved words needs,
+pub ruleset reserved_steps = (noted_none, nonzero_more, noted_append)
+
+-- and the list of a page.
+pub ruleset page_steps = (no_words, listed_more, past_words, every_word)

@@ -1,13 +1,13 @@
 // What a page of another maker says, and what is wrong with it (document 02, request (v)): the work, on the page where it lies.
-// A function here that takes a page asks for 512 bytes; the calls that take any page stand in `reader`.
+// A page is 512 bytes by its type here, and the place of a word, 0 to 255, is a `u8`; the calls that take any page stand in `reader`.
 #![tactic(auto)]
 
-ghost use Rattle.std.specs.Prelude.{◌≡◌, ◌-◌, ◌*◌, ◌<◌, ◌≤◌, min, [], map, length};
+ghost use Rattle.std.specs.Prelude.{◌≡◌, ◌-◌, ◌+◌, ◌*◌, ◌<◌, ◌≤◌, min, []};
 ghost use Rattle.conditions.specs.Conditions.{condition_at};
 ghost use Rattle.pages.specs.Readings.{page_word, page_setting, record_from, page_record};
 ghost use Rattle.faults.specs.Inner;
-ghost use Rattle.faults.specs.Inner.{added, added_if, so_far, noted};
-ghost use Rattle.faults.specs.Listing.{first_with_blanks, listing, faults_from, faults_of};
+ghost use Rattle.faults.specs.Inner.{added, added_if, noted};
+ghost use Rattle.faults.specs.Listing.{listing, faults_from, faults_of};
 ghost use Rattle.faults.specs.Tests.{kind_number, is_set_unsupported, is_same_setting, is_saved_off};
 
 use drive::{Millis, Record, Setting, Tenths};
@@ -30,6 +30,7 @@ pub struct Fault {
 }
 
 // How many faults a page has, and the first 64; kind 0 at word 0 fills the places after the last.
+// Stays an array, blanks and a count: no heap here, the count goes on past the 64th, and `faults/Order · listed_blank` says what the blanks are.
 #[derive(Clone, Copy)]
 pub struct Faults {
     pub total: u32,
@@ -40,55 +41,42 @@ pub struct Faults {
 pub fn kind_number(kind: FaultKind) -> u32
     ensures { result ≡ kind_number kind }
 {
-    match kind {
-        FaultKind::ReservedWord => 0,
-        FaultKind::ReservedBits => 1,
-        FaultKind::SetUnsupported => 2,
-        FaultKind::NoTimer => 3,
-        FaultKind::SavedOff => 4,
-    }
+    kind as u32
 }
 
 // How many of the entries are faults: the others are blank.
 pub fn listed_count(total: u32) -> usize
     ensures { (result ≡ min total 64) × (result ≤ 64) }
 {
-    if total < 64 { total as usize } else { 64 }
+    total.min(64) as usize
 }
 
 // ---- a record, read
 
-// A byte as a number that a word can be made of.
-fn wide(b: u8) -> u32
-    ensures { (result ≡ b) × (result < 256) }
-{
-    b as u32
-}
-
 // The word at a place, its low byte first.
-fn word_at(page: &[u8], w: usize) -> u32
-    requires { (length page.now ≡ 512) × (w < 256) }
-    ensures { (result ≡ page_word page.now w) × (result < 65536) }
+fn word_at(page: &[u8; 512], w: u8) -> u16
+    ensures { result ≡ page_word page.now w }
 {
-    wide(page[2 * w]) + 256 * wide(page[2 * w + 1])
+    let at = 2 * usize::from(w);
+    u16::from_le_bytes([page[at], page[at + 1]])
 }
 
 // The setting whose flag is in bit 15 of that word.
-fn setting_at(page: &[u8], w: usize) -> Setting
-    requires { (length page.now ≡ 512) × (w < 255) }
+fn setting_at(page: &[u8; 512], w: u8) -> Setting
+    requires { w < 255 }
     ensures { result ≡ page_setting page.now w }
 {
     let flags = word_at(page, w);
     let timer = word_at(page, w + 1);
     Setting {
         enabled: flags / 0x8000 % 2 != 0,
-        timer: Tenths(timer),
+        timer: Tenths(u32::from(timer)),
     }
 }
 
 // The record whose first word is there.
-fn record_from(page: &[u8], w: usize) -> Record
-    requires { (length page.now ≡ 512) × (w < 80) }
+fn record_from(page: &[u8; 512], w: u8) -> Record
+    requires { w < 80 }
     ensures { result ≡ record_from page.now w }
 {
     let flags = word_at(page, w + 1);
@@ -97,7 +85,7 @@ fn record_from(page: &[u8], w: usize) -> Record
         supported: flags / 0x8000 % 2 != 0,
         saveable: flags / 0x4000 % 2 != 0,
         changeable: flags / 0x2000 % 2 != 0,
-        recovery: Millis(recovery),
+        recovery: Millis(u32::from(recovery)),
         default: setting_at(page, w + 2),
         saved: setting_at(page, w + 4),
         current: setting_at(page, w + 6),
@@ -105,16 +93,17 @@ fn record_from(page: &[u8], w: usize) -> Record
 }
 
 // The record of the condition of that place.
-pub fn record_of(page: &[u8], place: usize) -> Record
-    requires { (length page.now ≡ 512) × (place < 5) }
+pub fn record_of(page: &[u8; 512], place: usize) -> Record
+    requires { place < 5 }
     ensures { result ≡ page_record page.now (condition_at place) }
 {
-    record_from(page, 16 * place)
+    record_from(page, 16 * (place as u8))
 }
 
 // ---- the list
 
-// No fault yet. It also stands beside a refusal, where it says nothing of the page.
+// No fault yet: every place is blank.
+#[tactic(auto, unfolding(crate::specs::Listing::first_with_blanks))]
 pub fn no_faults() -> Faults
     ensures { result ≡ listing [] }
 {
@@ -128,68 +117,30 @@ pub fn no_faults() -> Faults
     }
 }
 
-// One more fault, as a number: in the array if there is room left, and counted.
-fn add(codes: &mut [u32; 64], total: u32, kind: FaultKind, w: usize) -> u32
-    requires { w < 256 }
-    ensures { so_far result codes.new ≡ added (so_far total codes.old) (record { kind = kind; place = w }) }
-{
-    let n = total as usize;
-    if n < 64 {
-        codes[n] = 256 * kind_number(kind) + w as u32;
+impl Faults {
+    // One more fault: in the list if there is room left, and counted.
+    fn add(&mut self, kind: FaultKind, w: u8)
+        ensures { self.new ≡ added self.old (record { kind = kind; place = w }) }
+    {
+        let n = self.total as usize;
+        if n < self.listed.len() {
+            self.listed[n] = Fault {
+                kind,
+                place: u32::from(w),
+            };
+        }
+        self.total = self.total.wrapping_add(1);
     }
-    std::num::wrapping_add_u32(total, 1)
-}
 
-// One more, if it applies.
-fn add_if(codes: &mut [u32; 64], total: u32, applies: bool, kind: FaultKind, w: usize) -> u32
-    requires { w < 256 }
-    ensures { so_far result codes.new ≡ noted (so_far total codes.old) (added_if applies kind w []) }
-{
-    if applies {
-        add(codes, total, kind, w)
-    } else {
-        total
+    // One more, if it applies.
+    #[tactic(auto, unfolding(crate::specs::Inner::noted))]
+    fn add_if(&mut self, applies: bool, kind: FaultKind, w: u8)
+        ensures { self.new ≡ noted self.old (added_if applies kind w []) }
+    {
+        if applies {
+            self.add(kind, w);
+        }
     }
-}
-
-fn kind_at(n: u32) -> FaultKind
-    ensures { result ≡ Inner.kind_at n }
-{
-    let kinds = [
-        FaultKind::ReservedWord,
-        FaultKind::ReservedBits,
-        FaultKind::SetUnsupported,
-        FaultKind::NoTimer,
-        FaultKind::SavedOff,
-    ];
-    if n < 5 {
-        kinds[n as usize]
-    } else {
-        FaultKind::ReservedWord
-    }
-}
-
-// The fault that a number stands for.
-fn fault_from(code: u32) -> Fault
-    ensures { result ≡ Inner.fault_from code }
-{
-    Fault {
-        kind: kind_at(code / 256),
-        place: code % 256,
-    }
-}
-
-// The faults that the array stands for.
-fn listed_from(codes: [u32; 64]) -> [Fault; 64]
-    ensures { result ≡ first_with_blanks 64 (map Inner.fault_from codes) }
-{
-    let mut listed = [fault_from(0); 64];
-    let mut i = 0;
-    while i < 64 {
-        listed[i] = fault_from(codes[i]);
-        i += 1;
-    }
-    listed
 }
 
 // ---- a condition's words
@@ -204,7 +155,7 @@ fn is_set_unsupported(r: Record) -> bool
 fn is_same_setting(s: Setting, t: Setting) -> bool
     ensures { result ≡ is_same_setting s t }
 {
-    (s.enabled == t.enabled) & (s.timer.0 == t.timer.0)
+    s == t
 }
 
 // Saved off default while not saveable.
@@ -215,86 +166,70 @@ fn is_saved_off(r: Record) -> bool
 }
 
 // The faults of a condition's own flag word, +1.
-fn head_faults(page: &[u8], w: usize, r: Record, codes: &mut [u32; 64], total: u32) -> u32
-    requires { (length page.now ≡ 512) × (w < 256) }
-    ensures { so_far result codes.new ≡ noted (so_far total codes.old) (Inner.head_faults page.now w r) }
+#[tactic(auto, using(crate::proofs::Noted::noted_append))]
+fn head_faults(page: &[u8; 512], w: u8, r: Record, faults: &mut Faults)
+    ensures { faults.new ≡ noted faults.old (Inner.head_faults page.now w r) }
 {
     let reserved = word_at(page, w) % 0x2000 != 0;
-    let bits = add_if(codes, total, reserved, FaultKind::ReservedBits, w);
-    add_if(
-        codes,
-        bits,
-        is_set_unsupported(r),
-        FaultKind::SetUnsupported,
-        w,
-    )
+    faults.add_if(reserved, FaultKind::ReservedBits, w);
+    faults.add_if(is_set_unsupported(r), FaultKind::SetUnsupported, w);
 }
 
 // The faults of a setting that was read, at its flag word, but for kind 4.
-fn setting_faults(page: &[u8], w: usize, s: Setting, codes: &mut [u32; 64], total: u32) -> u32
-    requires { (length page.now ≡ 512) × (w < 256) }
-    ensures { so_far result codes.new ≡ noted (so_far total codes.old) (Inner.setting_faults page.now w s) }
+#[tactic(auto, using(crate::proofs::Noted::noted_append))]
+fn setting_faults(page: &[u8; 512], w: u8, s: Setting, faults: &mut Faults)
+    ensures { faults.new ≡ noted faults.old (Inner.setting_faults page.now w s) }
 {
     let reserved = word_at(page, w) % 0x8000 != 0;
-    let timer = s.timer;
-    let untimed = s.enabled & (timer.0 == 0);
-    let bits = add_if(codes, total, reserved, FaultKind::ReservedBits, w);
-    add_if(codes, bits, untimed, FaultKind::NoTimer, w)
+    let untimed = s.enabled & (s.timer.0 == 0);
+    faults.add_if(reserved, FaultKind::ReservedBits, w);
+    faults.add_if(untimed, FaultKind::NoTimer, w);
 }
 
 // The faults of the words that 001 names, +0 to +7 of a condition.
-fn named_faults(page: &[u8], w: usize, codes: &mut [u32; 64], total: u32) -> u32
-    requires { (length page.now ≡ 512) × (w < 80) }
-    ensures { so_far result codes.new ≡ noted (so_far total codes.old) (Inner.named_faults page.now w (record_from page.now w)) }
+#[tactic(auto, using(crate::proofs::Noted::noted_append))]
+fn named_faults(page: &[u8; 512], w: u8, faults: &mut Faults)
+    requires { w < 80 }
+    ensures { faults.new ≡ noted faults.old (Inner.named_faults page.now w (record_from page.now w)) }
 {
     let r = record_from(page, w);
-    let head = head_faults(page, w + 1, r, codes, total);
-    let default = setting_faults(page, w + 2, r.default, codes, head);
-    let saved = setting_faults(page, w + 4, r.saved, codes, default);
-    let off = add_if(codes, saved, is_saved_off(r), FaultKind::SavedOff, w + 4);
-    setting_faults(page, w + 6, r.current, codes, off)
+    head_faults(page, w + 1, r, faults);
+    setting_faults(page, w + 2, r.default, faults);
+    setting_faults(page, w + 4, r.saved, faults);
+    faults.add_if(is_saved_off(r), FaultKind::SavedOff, w + 4);
+    setting_faults(page, w + 6, r.current, faults);
 }
 
-// The words from one place up to another that are not zero.
-fn reserved_faults(page: &[u8], from: usize, to: usize, codes: &mut [u32; 64], total: u32) -> u32
-    requires { (length page.now ≡ 512) × (to ≤ 256) × (from ≤ to) }
-    ensures { so_far result codes.new ≡ noted (so_far total codes.old) (Inner.nonzero_from page.now from (to - from)) }
+// The words that are not zero from one place to another, the last one too.
+#[tactic(auto, using(crate::proofs::Spots::reserved_steps))]
+fn reserved_faults(page: &[u8; 512], from: u8, last: u8, faults: &mut Faults)
+    ensures { faults.new ≡ noted faults.old (Inner.nonzero_from page.now from (last + 1 - from)) }
 {
-    let mut n = total;
-    let mut w = from;
-    while w < to {
-        let word = word_at(page, w);
-        n = add_if(codes, n, word != 0, FaultKind::ReservedWord, w);
-        w += 1;
+    for w in from..=last {
+        faults.add_if(word_at(page, w) != 0, FaultKind::ReservedWord, w);
     }
-    n
 }
 
 // The faults of a condition's sixteen words.
-fn condition_faults(page: &[u8], place: usize, codes: &mut [u32; 64], total: u32) -> u32
-    requires { (length page.now ≡ 512) × (place < 5) }
-    ensures { so_far result codes.new ≡ noted (so_far total codes.old) (faults_from page.now (16 * place) 16) }
+#[tactic(auto, using(crate::proofs::Noted::noted_append, crate::proofs::Spots::condition_words))]
+fn condition_faults(page: &[u8; 512], place: u8, faults: &mut Faults)
+    requires { place < 5 }
+    ensures { faults.new ≡ noted faults.old (faults_from page.now (16 * place) 16) }
 {
     let w = 16 * place;
-    let named = named_faults(page, w, codes, total);
-    reserved_faults(page, w + 8, w + 16, codes, named)
+    named_faults(page, w, faults);
+    reserved_faults(page, w + 8, w + 15, faults);
 }
 
 // Every fault of the page, by place, and at one place by kind.
-pub fn faults_of(page: &[u8]) -> Faults
-    requires { length page.now ≡ 512 }
+#[tactic(auto, using(crate::proofs::Spots::page_steps))]
+pub fn faults_of(page: &[u8; 512]) -> Faults
     ensures { result ≡ listing (faults_of page.now) }
 {
-    let mut codes = [0u32; 64];
-    let mut total = 0;
-    let mut place = 0;
-    while place < 5 {
-        total = condition_faults(page, place, &mut codes, total);
-        place += 1;
+    let mut faults = no_faults();
+    for place in 0..5 {
+        condition_faults(page, place, &mut faults);
     }
-    let all = reserved_faults(page, 0x50, 0x100, &mut codes, total);
-    Faults {
-        total: all,
-        listed: listed_from(codes),
-    }
+    reserved_faults(page, 0x50, 0xFF, &mut faults);
+    faults
 }

@@ -1,14 +1,10 @@
 -- The replay lines of request (v), `faults LEN [W=V ...]` and `record X LEN [W=V ...]`: what they print, piece by piece. Assumes nothing.
-use Rattle.std.specs.Prelude.{List, [], ◌∷◌, ◌++◌, map, ℕ, min, take}
+use Rattle.std.specs.Prelude.{List, [], ◌∷◌, ◌++◌, map, ℕ, min, take, Ok, Err, Result}
 use Rattle.conditions.specs.declared.Condition.{Condition}
-use Rattle.refusals.specs.declared.Answer.{Answer}
-use Rattle.refusals.specs.declared.Answer.TheVariants.{Done, Refused}
 use Rattle.faults.specs.Tests.{kind_number}
 use Rattle.faults.specs.declared.Fault.{Fault}
 use Rattle.faults.specs.declared.Faults.{Faults}
 use Rattle.reader.specs.PageCalls.{faults_outcome, record_outcome}
-use Rattle.reader.specs.declared.PageRecord.{PageRecord}
-use Rattle.reader.specs.declared.PageRecord.TheVariants.{Found, NotRead}
 use Rattle.words.specs.Codes.{codes}
 use Rattle.digits.specs.Numerals.{hex_text}
 use Rattle.digits.specs.Pieces.{number_word}
@@ -16,6 +12,9 @@ use Rattle.digits.specs.Sheets.{line_text}
 use Rattle.pairs.specs.Pairs.{page_of}
 use Rattle.spelling.specs.Spelling.{record_words}
 use Rattle.phrases.specs.Phrases.{refused_text}
+use Rattle.refusals.specs.Refusals.{Verdict}
+use Rattle.refusals.specs.declared.Refusal.{Refusal}
+use Rattle.drive.specs.declared.Record.{Record}
 
 -- ---- faults: "`ok TOTAL K@W K@W ...`", or "`refused 1 -`"
 
@@ -33,19 +32,19 @@ entries_of f = take (min f.total 0x40) f.listed
 abbrev pub listed_pieces : Faults → List (List ℕ)
 listed_pieces f = ok_total f.total ∷ map entry_text (entries_of f) ++ (line_text [] ∷ [])
 
-abbrev pub checked_pieces : Answer → Faults → List (List ℕ)
-checked_pieces Done f = listed_pieces f
-checked_pieces (Refused r) f = line_text (refused_text r) ∷ []
+abbrev pub checked_pieces : Result Faults Refusal → List (List ℕ)
+checked_pieces (Ok f) = listed_pieces f
+checked_pieces (Err r) = line_text (refused_text r) ∷ []
 
 -- Of the page that the line's pairs make, from word 2 on.
 unfoldable pub faults_pieces : ℕ → List ℕ → List (List ℕ)
-faults_pieces len text = checked_pieces (faults_outcome (page_of 2 len text)).answer (faults_outcome (page_of 2 len text)).faults
+faults_pieces len text = checked_pieces (faults_outcome (page_of 2 len text))
 
 -- ---- record: "`ok SUP SAV CHG REC DE DT SE ST CE CT`, or `refused 1 -`"
 
-abbrev pub found_text : PageRecord → List ℕ
-found_text (Found r) = codes "ok" ++ record_words r
-found_text (NotRead r) = refused_text r
+abbrev pub found_text : Result Record Refusal → List ℕ
+found_text (Ok r) = codes "ok" ++ record_words r
+found_text (Err r) = refused_text r
 
 -- Of the page that the line's pairs make, from word 3 on.
 unfoldable pub record_pieces : Condition → ℕ → List ℕ → List (List ℕ)

@@ -8,9 +8,9 @@ ghost use Rattle.findings.specs.Findings.{ok_total, entry_text, entries_of, list
 
 use conditions::Condition;
 use digits::{Sheet, Text};
+use drive::Record;
 use faults::{Fault, Faults};
-use reader::{Checked, PageRecord};
-use refusals::Answer;
+use refusals::Refusal;
 
 // ---- faults
 
@@ -47,12 +47,12 @@ fn put_listed<const N: usize>(f: Faults, out: &mut Sheet<N>)
 }
 
 #[tactic(auto, using(digits::proofs::Sheets::line_once), unfolding(digits::specs::Sheets::wrote_all))]
-fn put_checked<const N: usize>(a: Answer, f: Faults, out: &mut Sheet<N>)
-    ensures { out.new ≡ wrote_all out.old (checked_pieces a f) }
+fn put_checked<const N: usize>(checked: Result<Faults, Refusal>, out: &mut Sheet<N>)
+    ensures { out.new ≡ wrote_all out.old (checked_pieces checked) }
 {
-    match a {
-        Answer::Done => put_listed(f, out),
-        Answer::Refused(_) => out.put_line(phrases::called(a)),
+    match checked {
+        Ok(f) => put_listed(f, out),
+        Err(r) => out.put_line(phrases::called(Err(r))),
     }
 }
 
@@ -64,18 +64,17 @@ pub fn put_faults<const N: usize>(len: u32, text: &[u8], out: &mut Sheet<N>)
     let page = pairs::page_of(text, 2, len);
     let bytes = page.bytes;
     let n = page.len;
-    let checked = power::page_faults(&bytes[..n]);
-    put_checked(checked.answer, checked.faults, out);
+    put_checked(power::page_faults(&bytes[..n]), out);
 }
 
 // ---- record
 
-fn found(r: PageRecord) -> Text
+fn found(r: Result<Record, Refusal>) -> Text
     ensures { said result ≡ cut (found_text r) }
 {
     match r {
-        PageRecord::Found(record) => spelling::spell_record(Text::of(b"ok"), record),
-        PageRecord::NotRead(refusal) => phrases::called(Answer::Refused(refusal)),
+        Ok(record) => spelling::spell_record(Text::of(b"ok"), record),
+        Err(refusal) => phrases::called(Err(refusal)),
     }
 }
 

@@ -2,145 +2,135 @@
 #![tactic(auto)]
 
 ghost use Rattle.std.specs.Prelude.{◌≡◌};
-ghost use Rattle.hosts.specs.Hosts.{is_none, target_from, stage_from, is_stage, request_in, spells, failure_in, slot_line, held_line, out_line};
+ghost use Rattle.hosts.specs.Hosts.{is_none, stage_from, request_in, slot_in, spells, failure_in, held_in, out_in, slot_line, held_line, out_line};
 ghost use Rattle.requests.specs.Requests.{failure_sense};
 
 use asked::{Line, Part};
+use conditions::Condition;
 use requests::{Failure, Request, Stage, Target};
-use unit::{Held, Out, Slot};
-
-// What some of a line's words spell, if they spell it.
-#[derive(Clone, Copy)]
-pub struct ReadRequest {
-    pub good: bool,
-    pub value: Request,
-}
-
-fn target_from(place: usize) -> Target
-    ensures { result ≡ target_from place }
-{
-    match place {
-        0 => Target::Stop,
-        1 => Target::Start,
-        _ => Target::GoTo(asked::condition_at(place - 2)),
-    }
-}
+use unit::Slot;
 
 // "`start` with FLUSH 1" and "PROGRESS not 0 where FLUSH is 0" are bad lines.
-fn is_stage(target: usize, flushes: bool, answered: u8) -> bool
-    ensures { result ≡ is_stage target flushes answered }
+fn stage_from(target: Target, flushes: bool, answered: u8) -> Option<Stage>
+    ensures { result ≡ stage_from target flushes answered }
 {
-    if flushes { target != 1 } else { answered == 0 }
-}
-
-fn stage_from(flushes: bool, answered: u8) -> Stage
-    ensures { result ≡ stage_from flushes answered }
-{
-    if flushes {
-        Stage::Flushing(answered)
-    } else {
-        Stage::Straight
+    match (flushes, target) {
+        (true, Target::Start) => None,
+        (true, _) => Some(Stage::Flushing(answered)),
+        (false, _) => (answered == 0).then_some(Stage::Straight),
     }
 }
 
-fn request_in(line: &[u8]) -> ReadRequest
+#[tactic(auto, unfolding(words::specs::Words::words, words::specs::Words::pieces, words::specs::Words::nonempty))]
+fn request_in(line: &[u8]) -> Option<Request>
     ensures { result ≡ request_in line.now }
 {
-    let target = words::name_at(line, 2, b"stop start A B C Y Z");
-    let immed = words::flag_at(line, 3);
-    let flushes = words::flag_at(line, 4);
-    let answered = words::byte_at(line, 5);
-    let good = (target < 7) & immed.good & flushes.good & answered.good;
-    ReadRequest {
-        good: good & is_stage(target, flushes.value, answered.value),
-        value: Request {
-            target: target_from(target),
-            immed: immed.value,
-            stage: stage_from(flushes.value, answered.value),
-        },
-    }
+    let targets = [
+        Target::Stop,
+        Target::Start,
+        Target::GoTo(Condition::IdleA),
+        Target::GoTo(Condition::IdleB),
+        Target::GoTo(Condition::IdleC),
+        Target::GoTo(Condition::StandbyY),
+        Target::GoTo(Condition::StandbyZ),
+    ];
+    let target = asked::kind_at(line, 2, b"stop start A B C Y Z", targets)?;
+    let immed = words::flag_at(line, 3)?;
+    let flushes = words::flag_at(line, 4)?;
+    let answered = words::byte_at(line, 5)?;
+    let stage = stage_from(target, flushes, answered)?;
+    Some(Request {
+        target,
+        immed,
+        stage,
+    })
 }
 
 // Whether a word says that there is nothing.
+#[tactic(auto, unfolding(words::specs::Words::words, words::specs::Words::pieces, words::specs::Words::nonempty))]
 fn is_none(line: &[u8], k: usize) -> bool
     ensures { result ≡ is_none k line.now }
 {
-    let place = words::name_at(line, k, b"-");
-    place == 0
+    words::name_at(line, k, b"-").is_some()
 }
 
-pub fn slot_line(line: &[u8]) -> Line
+// What a slot holds.
+fn slot_in(line: &[u8]) -> Option<Slot>
+    ensures { result ≡ slot_in line.now }
+{
+    match (is_none(line, 2), words::word_count(line)) {
+        (true, 3) => Some(Slot::Empty),
+        (false, 6) => Some(Slot::Waiting(request_in(line)?)),
+        _ => None,
+    }
+}
+
+#[tactic(auto, unfolding(crate::specs::Hosts::slot_line))]
+pub fn slot_line(line: &[u8]) -> Option<Line>
     ensures { result ≡ slot_line line.now }
 {
-    let n = words::word_count(line);
-    let host = words::number_at(line, 1, 3);
-    let read = request_in(line);
-    if is_none(line, 2) {
-        return asked::offered(
-            (n == 3) & host.good,
-            Line::Sets(Part::HasSlot(host.value, Slot::Empty)),
-        );
-    }
-    let request = read.value;
-    let slot = Slot::Waiting(request);
-    asked::offered(
-        (n == 6) & host.good & read.good,
-        Line::Sets(Part::HasSlot(host.value, slot)),
-    )
+    let host = words::number_at(line, 1, 3)?;
+    Some(Line::Sets(Part::HasSlot(host, slot_in(line)?)))
 }
 
 // Whether a line's words are a failure's sense.
 fn spells_failure(line: &[u8], f: Failure) -> bool
     ensures { result ≡ spells (failure_sense f) line.now }
 {
-    let key = words::byte_at(line, 2);
-    let asc = words::byte_at(line, 3);
-    let ascq = words::byte_at(line, 4);
     let sense = requests::failure_sense(f);
-    let good = key.good & asc.good & ascq.good;
-    good & (key.value == sense.key) & (asc.value == sense.asc) & (ascq.value == sense.ascq)
-}
-
-// The failure that a line can tell of; `held_line` asks whether it does.
-fn failure_in(line: &[u8]) -> Failure
-    ensures { result ≡ failure_in line.now }
-{
-    if spells_failure(line, Failure::NotReady) {
-        Failure::NotReady
-    } else {
-        Failure::CommandSequence
-    }
+    (words::byte_at(line, 2) == Some(sense.key))
+        & (words::byte_at(line, 3) == Some(sense.asc))
+        & (words::byte_at(line, 4) == Some(sense.ascq))
 }
 
 // "a held sense that is no failure's" is a bad line.
-pub fn held_line(line: &[u8]) -> Line
-    ensures { result ≡ held_line line.now }
+fn failure_in(line: &[u8]) -> Option<Failure>
+    ensures { result ≡ failure_in line.now }
 {
-    let n = words::word_count(line);
-    let host = words::number_at(line, 1, 3);
-    if is_none(line, 2) {
-        return asked::offered(
-            (n == 3) & host.good,
-            Line::Sets(Part::HasHeld(host.value, Held::Nothing)),
-        );
+    if spells_failure(line, Failure::NotReady) {
+        Some(Failure::NotReady)
+    } else if spells_failure(line, Failure::CommandSequence) {
+        Some(Failure::CommandSequence)
+    } else {
+        None
     }
-    let failure = failure_in(line);
-    asked::offered(
-        (n == 5) & host.good & spells_failure(line, failure),
-        Line::Sets(Part::HasHeld(host.value, Held::Holds(failure))),
-    )
 }
 
-pub fn out_line(line: &[u8]) -> Line
+// The deferred sense that waits for a host.
+fn held_in(line: &[u8]) -> Option<Option<Failure>>
+    ensures { result ≡ held_in line.now }
+{
+    match (is_none(line, 2), words::word_count(line)) {
+        (true, 3) => Some(None),
+        (false, 5) => Some(Some(failure_in(line)?)),
+        _ => None,
+    }
+}
+
+#[tactic(auto, unfolding(crate::specs::Hosts::held_line))]
+pub fn held_line(line: &[u8]) -> Option<Line>
+    ensures { result ≡ held_line line.now }
+{
+    let host = words::number_at(line, 1, 3)?;
+    Some(Line::Sets(Part::HasHeld(host, held_in(line)?)))
+}
+
+// The host whose command is out.
+fn out_in(line: &[u8]) -> Option<Option<u32>>
+    ensures { result ≡ out_in line.now }
+{
+    if words::word_count(line) != 2 {
+        return None;
+    }
+    if is_none(line, 1) {
+        return Some(None);
+    }
+    Some(Some(words::number_at(line, 1, 0xFF)?))
+}
+
+#[tactic(auto, unfolding(crate::specs::Hosts::out_line))]
+pub fn out_line(line: &[u8]) -> Option<Line>
     ensures { result ≡ out_line line.now }
 {
-    let n = words::word_count(line);
-    let host = words::number_at(line, 1, 0xFF);
-    if is_none(line, 1) {
-        return asked::offered(n == 2, Line::Sets(Part::HasOut(Out::NoneOut)));
-    }
-    asked::offered(
-        (n == 2) & host.good,
-        Line::Sets(Part::HasOut(Out::OutFor(host.value))),
-    )
+    Some(Line::Sets(Part::HasOut(out_in(line)?)))
 }

@@ -1,5 +1,5 @@
 -- Document 01, "START STOP UNIT": an operation's commands, its end report, and what its answers mean. No unit is needed.
-use Rattle.std.specs.Prelude.{Bool, true, false, ◌||◌, cond, List, ℕ, ◌+◌, eqb, ltb, get_or}
+use Rattle.std.specs.Prelude.{Bool, true, false, ◌||◌, cond, List, ℕ, ◌+◌, eqb, ltb, get_or, Ok, Some, None, Result}
 use Rattle.conditions.specs.Conditions.{place_of}
 use Rattle.drive.specs.Records.{unsupported}
 use Rattle.conditions.specs.declared.Condition.{Condition}
@@ -18,7 +18,6 @@ use Rattle.requests.specs.declared.Stage.TheVariants.{Straight, Flushing}
 use Rattle.requests.specs.declared.Request.{Request}
 use Rattle.requests.specs.declared.Failure.{Failure}
 use Rattle.requests.specs.declared.Failure.TheVariants.{CommandSequence, NotReady}
-use Rattle.refusals.specs.declared.SenseDue.TheVariants.{NoSense, WithSense}
 use Rattle.operations.specs.declared.Due.{Due}
 use Rattle.operations.specs.declared.Due.TheVariants.{Flush, StandbyImmediate, ReadVerify, EpcGoTo}
 use Rattle.requests.specs.declared.Reply.{Reply}
@@ -81,11 +80,11 @@ flushes_of (Flushing answered) = answered
 -- "With IMMED 1, GOOD is due on acceptance; a failure is held as the host's deferred sense .. With IMMED 0 the status comes with the last
 -- answer." "The end report also carries the number of flushes answered". A sense beside no status is one that is now held.
 abbrev pub report_good : Bool → ℕ → Report
-report_good immed flushes = record { status = cond immed NoStatus GoodStatus; sense = NoSense; flushes = flushes }
+report_good immed flushes = record { status = cond immed NoStatus GoodStatus; sense = None; flushes = flushes }
 
 abbrev pub report_failed : Bool → Failure → ℕ → Report
 report_failed immed f flushes =
-    record { status = cond immed NoStatus CheckCondition; sense = WithSense (failure_sense f); flushes = flushes }
+    record { status = cond immed NoStatus CheckCondition; sense = Some (failure_sense f); flushes = flushes }
 
 -- ---- answers
 

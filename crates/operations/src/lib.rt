@@ -7,12 +7,12 @@ ghost use Rattle.operations.specs.declared.Status.TheVariants.{NoStatus};
 
 use conditions::{Cause, Condition, Power};
 use drive::Record;
-use refusals::{Refusal, SenseDue};
 use registers::Registers;
 use requests::{Failure, Reply, Request, Stage, Target};
+use senses::Sense;
 
 // The command that an operation is due to send.
-#[derive(Clone, Copy)]
+#[derive(Clone, Copy, PartialEq, Eq)]
 pub enum Due {
     Flush,
     StandbyImmediate,
@@ -20,23 +20,15 @@ pub enum Due {
     EpcGoTo(Condition),
 }
 
-// START STOP UNIT's answer: accepted with GOOD due at once or with the last answer, or refused.
+// START STOP UNIT accepted: GOOD is due at once, or with the last answer.
 #[derive(Clone, Copy)]
 pub enum Acceptance {
     GoodDue,
     Pending,
-    NotAccepted(Refusal),
-}
-
-// The answer to a host that asks for its next command.
-#[derive(Clone, Copy)]
-pub enum Next {
-    Send(Registers),
-    NotSent(Refusal),
 }
 
 // The status that an operation's end gives its host; with IMMED it had GOOD on acceptance.
-#[derive(Clone, Copy)]
+#[derive(Clone, Copy, PartialEq, Eq)]
 pub enum Status {
     NoStatus,
     GoodStatus,
@@ -47,7 +39,7 @@ pub enum Status {
 #[derive(Clone, Copy)]
 pub struct Report {
     pub status: Status,
-    pub sense: SenseDue,
+    pub sense: Option<Sense>,
     pub flushes: u8,
 }
 
@@ -56,7 +48,6 @@ pub struct Report {
 pub enum Progress {
     More,
     Ended(Report),
-    NotTaken(Refusal),
 }
 
 pub fn registers_of(d: Due) -> Registers
@@ -101,27 +92,20 @@ fn due_at(stage: Stage, unsaved: bool, last: Due) -> Due
 pub fn due_from(unsaved: bool, q: Request) -> Due
     ensures { result ≡ due_from unsaved q }
 {
-    let stage = q.stage;
-    let target = q.target;
-    due_at(stage, unsaved, last_of(target))
+    due_at(q.stage, unsaved, last_of(q.target))
 }
 
 pub fn is_flush(d: Due) -> bool
     ensures { result ≡ is_flush d }
 {
-    match d {
-        Due::Flush => true,
-        Due::StandbyImmediate => false,
-        Due::ReadVerify => false,
-        Due::EpcGoTo(_) => false,
-    }
+    matches!(d, Due::Flush)
 }
 
 // The count of flushes answered stays at 255.
 pub fn one_more(n: u8) -> u8
     ensures { result ≡ one_more n }
 {
-    if n < 255 { n + 1 } else { n }
+    n.saturating_add(1)
 }
 
 pub fn flushes_of(stage: Stage) -> u8
@@ -137,12 +121,9 @@ pub fn flushes_of(stage: Stage) -> u8
 pub fn flush_counted(q: Request) -> Request
     ensures { result ≡ flush_counted q }
 {
-    let target = q.target;
-    let stage = q.stage;
     Request {
-        target,
-        immed: q.immed,
-        stage: Stage::Flushing(one_more(flushes_of(stage))),
+        stage: Stage::Flushing(one_more(flushes_of(q.stage))),
+        ..q
     }
 }
 
@@ -158,7 +139,7 @@ pub fn report_good(immed: bool, flushes: u8) -> Report
 {
     Report {
         status: status_at_end(immed, Status::GoodStatus),
-        sense: SenseDue::NoSense,
+        sense: None,
         flushes,
     }
 }
@@ -168,7 +149,7 @@ pub fn report_failed(immed: bool, f: Failure, flushes: u8) -> Report
 {
     Report {
         status: status_at_end(immed, Status::CheckCondition),
-        sense: SenseDue::WithSense(requests::failure_sense(f)),
+        sense: Some(requests::failure_sense(f)),
         flushes,
     }
 }
@@ -186,10 +167,7 @@ pub fn accepted_as(immediate: bool) -> Acceptance
 pub fn is_good(reply: Reply) -> bool
     ensures { result ≡ is_good reply }
 {
-    match reply {
-        Reply::Good => true,
-        Reply::Bad => false,
-    }
+    reply == Reply::Good
 }
 
 // What a failed operation says, by what it was to do: a spindle that does not turn is not ready.
@@ -207,8 +185,7 @@ pub fn failure_of(t: Target) -> Failure
 fn parked_in(records: [Record; 5]) -> Condition
     ensures { result ≡ parked_in records }
 {
-    let r = records[3];
-    if r.current.enabled {
+    if records[3].current.enabled {
         Condition::StandbyY
     } else {
         Condition::StandbyZ
@@ -228,9 +205,5 @@ pub fn reach(records: [Record; 5], t: Target) -> Power
 pub fn is_stop(t: Target) -> bool
     ensures { result ≡ is_stop t }
 {
-    match t {
-        Target::Stop => true,
-        Target::Start => false,
-        Target::GoTo(_) => false,
-    }
+    matches!(t, Target::Stop)
 }

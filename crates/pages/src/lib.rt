@@ -6,17 +6,11 @@ ghost use Rattle.pages.specs.Logs.{bytes_of, flag_at, timer_word, named_words, l
 
 use drive::{Record, Setting};
 
-// The two bytes of a word, of which the low one comes first.
+// The low byte of a word.
 pub fn low(w: u32) -> u8
     ensures { result ≡ w % 256 }
 {
     (w % 256) as u8
-}
-
-fn high(w: u32) -> u8
-    ensures { result ≡ w / 256 % 256 }
-{
-    (w / 256 % 256) as u8
 }
 
 // A flag in the bit that weighs `weight`.
@@ -37,43 +31,29 @@ fn flag_word(r: Record) -> u32
 fn timer_word(n: u32) -> u32
     ensures { result ≡ timer_word n }
 {
-    if 65535 < n { 0xFFFF } else { n }
+    n.min(0xFFFF)
 }
 
 // The flag word and the timer of a setting.
 fn setting_bytes(s: Setting) -> [u8; 4]
     ensures { result ≡ bytes_of (flag_at 15 s.enabled ∷ timer_word s.timer.0 ∷ []) }
 {
-    let flag = flag_at(0x8000, s.enabled);
-    let timer = timer_word(s.timer.0);
-    [low(flag), high(flag), low(timer), high(timer)]
+    let [flag0, flag1, ..] = flag_at(0x8000, s.enabled).to_le_bytes();
+    let [timer0, timer1, ..] = timer_word(s.timer.0).to_le_bytes();
+    [flag0, flag1, timer0, timer1]
 }
 
 // The eight words of a condition that 001 names.
 fn named_bytes(r: Record) -> [u8; 16]
     ensures { result ≡ bytes_of (named_words r) }
 {
-    let flags = flag_word(r);
-    let d = setting_bytes(r.default);
-    let s = setting_bytes(r.saved);
-    let c = setting_bytes(r.current);
+    let [recovery0, recovery1, ..] = r.recovery.0.to_le_bytes();
+    let [flags0, flags1, ..] = flag_word(r).to_le_bytes();
+    let [d0, d1, d2, d3] = setting_bytes(r.default);
+    let [s0, s1, s2, s3] = setting_bytes(r.saved);
+    let [c0, c1, c2, c3] = setting_bytes(r.current);
     [
-        low(r.recovery.0),
-        high(r.recovery.0),
-        low(flags),
-        high(flags),
-        d[0],
-        d[1],
-        d[2],
-        d[3],
-        s[0],
-        s[1],
-        s[2],
-        s[3],
-        c[0],
-        c[1],
-        c[2],
-        c[3],
+        recovery0, recovery1, flags0, flags1, d0, d1, d2, d3, s0, s1, s2, s3, c0, c1, c2, c3,
     ]
 }
 
@@ -82,11 +62,8 @@ pub fn log_page(records: [Record; 5]) -> [u8; 512]
     ensures { result ≡ log_bytes records }
 {
     let mut page = [0u8; 512];
-    let mut i = 0;
-    while i < 5 {
-        let named = named_bytes(records[i]);
-        rows::copy_in(&named, &mut page, 32 * i);
-        i += 1;
+    for (place, r) in records.iter().enumerate() {
+        rows::copy_in(&named_bytes(*r), &mut page, 32 * place);
     }
     page
 }

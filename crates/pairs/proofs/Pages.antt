@@ -1,65 +1,82 @@
 -- Pair by pair: the pairs read so far and the words that are left make the page. It does not matter whether they are set on the page or on
 -- a longer one that is cut after, since every pair's word lies on the page.
-use mathlib.Core.Path.{◌≡◌, refl, sym, ◌∙◌}
-use mathlib.Core.Bool.{Bool, true, ◌&&◌, and_assoc, and-true}
+use mathlib.Core.Path.{◌≡◌, refl, sym, ap, ◌∙◌}
 use mathlib.Core.List.{List, [], ◌∷◌, map}
 use Prim.Native.Char.{code}
-use Prim.Native.Nat.{ℕ, zero, suc, ◌+◌, ◌-◌, ◌*◌, ◌/◌, ◌%◌, ◌<◌, ◌≤◌, min}
-use native.Mathlib.Nat.{zero-min, min-zero, suc-min-suc}
+use Prim.Native.Nat.{ℕ, suc, ◌+◌, ◌*◌, ◌/◌, ◌%◌, ◌<◌, ◌≤◌}
+use native.Mathlib.Nat.{add-zero}
 use native.Mathlib.Numerals.{add-one}
 use native.Mathlib.Omega.{arith}
 use borrow.Author.Tests.{ne_eqb}
 use lib.Dec.{eqb}
-use lib.ListN.{length, drop, length-drop, length-map, set, take}
-use lib.Seq.{take_all, take-set-lt}
+use lib.ListN.{length, drop, length-drop, drop_of_length-le, length-map, set, take}
+use lib.Seq.{drop-drop, paste, paste-suc, paste-zero, take-set-lt}
+use Rattle.std.proofs.Common.{Option, Some, None, IfSome}
+use Rattle.std.specs.Option.{unwrap_or}
 use Rattle.asked.proofs.Lengths.{take-replicate}
+use Rattle.words.specs.Numbers.{word_number}
 use Rattle.words.proofs.Scans.{Scan}
 use Rattle.words.proofs.Values.{at_most}
 use Rattle.pairs.specs.declared.LinePage.{LinePage}
-use Rattle.pairs.specs.Pairs.{before_equals, pair_in, are_pairs, zeros, with_pair, with_pairs, page_in}
+use Rattle.pairs.specs.declared.Pair.{Pair}
+use Rattle.pairs.specs.Pairs.{before_equals, pair_in, zeros, with_pair, with_pairs, page_in}
 
 pub equals : Scan before_equals (λ b. eqb b (code "="))
 unfolding before_equals
 equals = record { none = refl; more = λ b bs. refl }
 
--- what is dropped of a list is at most all of it
-drop_min : (n : ℕ) (l : List ℕ) → drop (min n (length l)) l ≡ drop n l
-drop_min zero l = rw zero-min
-drop_min (suc n) [] = rw min-zero
-drop_min (suc n) (x ∷ l) = rw suc-min-suc (drop_min n l)
+-- ---- behind a sign, which is not there where nothing is left
 
--- the bytes behind a sign, from there or from the word's end to its end
-pub behind_sign : (w : List ℕ) (sign from : ℕ) → from ≡ min (sign + 1) (length w) → take (length w - from) (drop from w) ≡ drop (suc sign) w
-behind_sign w sign from e =
-    take_all (length w - from) (drop from w) (rw length-drop (omega arith)) ∙ rw (e, drop_min, add-one)
+pub behind_sign : (w : List ℕ) (n b : ℕ) (rest : List ℕ) → drop n w ≡ b ∷ rest → rest ≡ drop (suc n) w
+behind_sign w n b rest e = rw (← add-one, ← drop-drop, e)
+
+pub behind_end : (w : List ℕ) (n : ℕ) → length (drop n w) ≡ 0 → drop n w ≡ drop (suc n) w
+behind_end w n e =
+    let short = rw length-drop at e in
+    let none : drop n w ≡ [] = drop_of_length-le w (omega arith) in
+    let none_more : drop (suc n) w ≡ [] = drop_of_length-le w {i = suc n} (omega arith) in
+    none ∙ sym none_more
 
 -- ---- the bounds of a pair
 
-pub place_bound : (w : List ℕ) → (pair_in w).place < 256
-place_bound w = omega (arith, at_most 0xFF (take (before_equals w) w))
+bounded : (top : ℕ) (r : Option ℕ) → IfSome r (λ n. n ≤ top) → unwrap_or r 0 ≤ top
+bounded top None h = omega arith
+bounded top (Some n) h = h
 
-pub value_bound : (w : List ℕ) → (pair_in w).value < 65536
-value_bound w = omega (arith, at_most 0xFFFF (drop (suc (before_equals w)) w))
+pub place_bound : (w : List ℕ) → unwrap_or (pair_in w).place 0 < 256
+place_bound w = omega (arith, bounded 0xFF (pair_in w).place (at_most 0xFF (take (before_equals w) w)))
+
+pub value_bound : (w : List ℕ) → unwrap_or (pair_in w).value 0 < 65536
+value_bound w = omega (arith, bounded 0xFFFF (pair_in w).value (at_most 0xFFFF (drop (suc (before_equals w)) w)))
+
+pub pair_read : (w : List ℕ) (place value : Option ℕ) → place ≡ word_number 0xFF (take (before_equals w) w)
+    → value ≡ word_number 0xFFFF (drop (suc (before_equals w)) w)
+    → ◌≡◌ {A = Pair} record { place = place; value = value } (pair_in w) × (unwrap_or place 0 < 256) × (unwrap_or value 0 < 65536)
+pair_read w place value e f = rw (e, f) (refl, place_bound w, value_bound w)
 
 -- ---- one pair more
 
--- What is still to be said of the words: that they and those before are pairs, and the page that they make of the bytes so far.
-pub record Left (good : Bool) (bytes : List ℕ) (ws all : List (List ℕ)) : Type 0 where
-  pub pairs : are_pairs all ≡ (good && are_pairs ws)
-  pub page : with_pairs (zeros 0x400) all ≡ with_pairs bytes ws
+-- two bytes put at a place
+two_put : (page : List ℕ) (at low high : ℕ) → at + 2 ≤ length page → paste page at (low ∷ high ∷ []) 2 ≡ set (set page at low) (at + 1) high
+two_put page at low high h =
+    let both = low ∷ high ∷ [] in
+    let none : set (paste page at both 0) (at + 0) low ≡ set page at low =
+    ap (λ i. set (paste page at both 0) i low) (add-zero at) ∙ ap (λ l. set l at low) (sym (paste-zero page at both)) in
+    let one : paste page at both 1 ≡ set page at low = sym (paste-suc page at both 0 0 (omega arith) (omega arith)) ∙ none in
+    sym (paste-suc page at both 1 0 (omega arith) (omega arith)) ∙ ap (λ l. set l (at + 1) high) one
 
-pub left_all : (bytes : List ℕ) (ws all : List (List ℕ)) → bytes ≡ zeros 0x400 → ws ≡ all → Left true bytes ws all
-left_all bytes ws all e f = rw (e, f) (record { pairs = refl; page = refl })
-
-pub one_more_lem : {good : Bool} {bytes : List ℕ} {all rest : List (List ℕ)} (ws : List (List ℕ)) (w : List ℕ) → ws ≡ w ∷ rest
-    → Left good bytes ws all → Left (good && (pair_in w).good) (with_pair bytes (pair_in w)) rest all
-unfolding are_pairs with_pairs
-one_more_lem ws w e h = record { pairs = rw (e, ← and_assoc) at h.pairs; page = rw e at h.page }
-
-pub no_more : {good : Bool} {bytes : List ℕ} {all : List (List ℕ)} (ws : List (List ℕ)) → ws ≡ []
-    → Left good bytes ws all → (good ≡ are_pairs all) × (bytes ≡ with_pairs (zeros 0x400) all)
-unfolding are_pairs with_pairs
-no_more ws e h = (sym (rw (e, and-true) at h.pairs), sym (rw e at h.page))
+pub one_more_lem : (all page : List ℕ) (ws rest : List (List ℕ)) (w : List ℕ) (p : Pair) (place value : ℕ) → ws ≡ w ∷ rest → p ≡ pair_in w
+    → place ≡ unwrap_or p.place 0 → value ≡ unwrap_or p.value 0 → length page ≡ 1024 → all ≡ with_pairs page ws
+    → all ≡ with_pairs (paste page (2 * place) (value % 256 ∷ (value / 256) % 256 ∷ []) 2) rest
+unfolding with_pairs
+one_more_lem all page ws rest w p place value e f g h long before =
+    let more = rw e at before in
+    let at : place ≡ unwrap_or (pair_in w).place 0 = rw f at g in
+    let v : value ≡ unwrap_or (pair_in w).value 0 = rw f at h in
+    let low = place_bound w in
+    let small = value_bound w in
+    let high : (value / 256) % 256 ≡ value / 256 = omega arith in
+    rw (high, two_put page (2 * place) (value % 256) (value / 256) (omega arith), at, v) more
 
 -- ---- the page, cut
 
@@ -67,11 +84,12 @@ cut_pairs : (ws : List (List ℕ)) (page : List ℕ) → take 0x200 (with_pairs 
 unfolding with_pairs
 cut_pairs [] page = refl
 cut_pairs (w ∷ ws) page =
-    let p = pair_in w in
-    let low = set page (2 * p.place) (p.value % 256) in
+    let place = unwrap_or (pair_in w).place 0 in
+    let value = unwrap_or (pair_in w).value 0 in
+    let low = set page (2 * place) (value % 256) in
     let inside = place_bound w in
-    cut_pairs ws (with_pair page p)
-    ∙ rw (take-set-lt 0x200 low (2 * p.place + 1) (p.value / 256) (omega arith), take-set-lt 0x200 page (2 * p.place) (p.value % 256) (omega arith))
+    cut_pairs ws (with_pair page (pair_in w))
+    ∙ rw (take-set-lt 0x200 low (2 * place + 1) (value / 256) (omega arith), take-set-lt 0x200 page (2 * place) (value % 256) (omega arith))
 
 cut_zeros : (n : ℕ) → n ≤ 0x400 → take n (zeros 0x400) ≡ zeros n
 unfolding zeros

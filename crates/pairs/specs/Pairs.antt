@@ -1,13 +1,15 @@
 -- The replay lines of request (v), `faults LEN [W=V ...]` and `record X LEN [W=V ...]`: their pairs, and the page that these make. Assumes nothing.
-use Rattle.std.specs.Prelude.{Bool, true, cond, ◌&&◌, List, [], ◌∷◌, ℕ, suc, ◌+◌, ◌*◌, ◌/◌, ◌%◌, eqb, ltb, drop, replicate, set, take}
+use Rattle.std.specs.Prelude.{Bool, cond, ◌&&◌, Option, Some, is_some, List, [], ◌∷◌, ℕ, suc, ◌+◌, ◌*◌, ◌/◌, ◌%◌, eqb, drop, replicate, set, take}
+use Rattle.std.specs.List.{list_all}
+use Rattle.std.specs.Option.{unwrap_or}
 use Prim.Native.Char.{code}
 use Rattle.asked.specs.declared.CallLine.TheVariants.{PageFaults, PageRecord}
 use Rattle.asked.specs.declared.Line.{Line}
 use Rattle.asked.specs.declared.Line.TheVariants.{Asks}
-use Rattle.asked.specs.Offers.{offered}
+use Rattle.asked.specs.Kinds.{condition_in}
 use Rattle.asked.specs.Lengths.{buffer_length}
-use Rattle.conditions.specs.Conditions.{condition_at}
-use Rattle.words.specs.Fields.{name_in, length_in, condition_letters}
+use Rattle.asked.specs.Offers.{offered, ◌then◌}
+use Rattle.words.specs.Fields.{length_in}
 use Rattle.words.specs.Lines.{line_in}
 use Rattle.words.specs.Numbers.{word_number}
 use Rattle.words.specs.Words.{words}
@@ -23,15 +25,16 @@ before_equals (b ∷ bs) = cond (eqb b (code "=")) 0 (suc (before_equals bs))
 -- "words W (0 to FF) of value V (0 to FFFF)". Nothing is no number, and none has a `=` in it: so a good pair has exactly one.
 abbrev pub pair_in : List ℕ → Pair
 pair_in w = record {
-  good = (word_number 0xFF (take (before_equals w) w)).good && (word_number 0xFFFF (drop (suc (before_equals w)) w)).good;
-  place = (word_number 0xFF (take (before_equals w) w)).value;
-  value = (word_number 0xFFFF (drop (suc (before_equals w)) w)).value;
+  place = word_number 0xFF (take (before_equals w) w);
+  value = word_number 0xFFFF (drop (suc (before_equals w)) w);
 }
 
 -- "must be well written".
+abbrev pub is_pair : List ℕ → Bool
+is_pair w = is_some (pair_in w).place && is_some (pair_in w).value
+
 unfoldable pub are_pairs : List (List ℕ) → Bool
-are_pairs [] = true
-are_pairs (w ∷ ws) = (pair_in w).good && are_pairs ws
+are_pairs ws = list_all is_pair ws
 
 -- ---- the page
 
@@ -39,9 +42,12 @@ are_pairs (w ∷ ws) = (pair_in w).good && are_pairs ws
 unfoldable pub zeros : ℕ → List ℕ
 zeros len = replicate len 0
 
--- "low byte first".
+-- "low byte first". What is no number counts as 0: no line is read that has such a pair.
 abbrev pub with_pair : List ℕ → Pair → List ℕ
-with_pair page p = set (set page (2 * p.place) (p.value % 256)) (2 * p.place + 1) (p.value / 256)
+with_pair page p =
+    let place = unwrap_or p.place 0 in
+    let value = unwrap_or p.value 0 in
+    set (set page (2 * place) (value % 256)) (2 * place + 1) (value / 256)
 
 -- "a later pair for the same word holds".
 unfoldable pub with_pairs : List ℕ → List (List ℕ) → List ℕ
@@ -58,11 +64,10 @@ page_of k len text = page_in (buffer_length len) (drop k (words (line_in text)))
 
 -- ---- the lines
 
-unfoldable pub faults_line : List ℕ → Line
-faults_line line = offered ((length_in 1 line).good && are_pairs (drop 2 (words line))) (Asks (PageFaults (length_in 1 line).value))
+unfoldable pub faults_line : List ℕ → Option Line
+faults_line line = length_in 1 line then λ len. offered (are_pairs (drop 2 (words line))) (Some (Asks (PageFaults len)))
 
 -- "condition X's record": X as in the block line `c`.
-unfoldable pub record_line : List ℕ → Line
+unfoldable pub record_line : List ℕ → Option Line
 record_line line =
-    offered (ltb (name_in condition_letters 1 line) 5 && (length_in 2 line).good && are_pairs (drop 3 (words line)))
-    (Asks (PageRecord (condition_at (name_in condition_letters 1 line)) (length_in 2 line).value))
+    condition_in 1 line then λ c. length_in 2 line then λ len. offered (are_pairs (drop 3 (words line))) (Some (Asks (PageRecord c len)))

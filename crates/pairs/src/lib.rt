@@ -1,28 +1,23 @@
 // The lines that have a page read that another maker wrote: the words `W=V` on them, and the page that these make.
 #![tactic(auto)]
 
-ghost use Rattle.std.specs.Prelude.{◌≡◌, ◌+◌, ◌<◌, ◌≤◌, min, drop, length, take};
+ghost use Rattle.std.specs.Prelude.{◌≡◌, ◌<◌, ◌≤◌, drop, length, take};
+ghost use Rattle.std.specs.Option.{unwrap_or};
 ghost use Rattle.words.specs.Words.{words};
-ghost use Rattle.pairs.specs.Pairs.{before_equals, pair_in, are_pairs, zeros, with_pairs, page_of, faults_line, record_line};
+ghost use Rattle.pairs.specs.Pairs.{before_equals, pair_in, is_pair, are_pairs, zeros, with_pairs, page_of, faults_line, record_line};
 
 use asked::{CallLine, Line};
+use words::Words;
 
-// A page's word and its value, as `W=V` spells them.
+// A page's word and its value, as `W=V` spells them, so far as they are numbers in range.
 #[derive(Clone, Copy)]
 pub struct Pair {
-    pub good: bool,
-    pub place: u32,
-    pub value: u32,
-}
-
-// Whether all pairs are well written, and what they make of the longest page.
-#[derive(Clone, Copy)]
-pub struct ReadPairs {
-    pub good: bool,
-    pub bytes: [u8; 1024],
+    pub place: Option<u32>,
+    pub value: Option<u32>,
 }
 
 // A page: the first `len` of these bytes.
+// Stays an array with a length beside it: fixed memory, as a page of a line is as long as the line says.
 #[derive(Clone, Copy)]
 pub struct LinePage {
     pub bytes: [u8; 1024],
@@ -33,65 +28,57 @@ pub struct LinePage {
 fn equals_at(w: &[u8]) -> usize
     ensures { (result ≡ before_equals w.now) × (result ≤ length w.now) }
 {
-    let mut i = 0;
-    while i < w.len() {
-        if w[i] == b'=' {
-            return i;
-        }
-        i += 1;
-    }
-    i
-}
-
-// The place behind a byte, or the end.
-fn behind(at: usize, end: usize) -> usize
-    ensures { result ≡ min (at + 1) end }
-{
-    if at < end { at + 1 } else { end }
+    w.iter().position(|b| *b == b'=').unwrap_or(w.len())
 }
 
 fn pair_in(w: &[u8]) -> Pair
-    ensures { (result ≡ pair_in w.now) × (result.place < 256) × (result.value < 65536) }
+    ensures { (result ≡ pair_in w.now) × (unwrap_or result.place 0 < 256) × (unwrap_or result.value 0 < 65536) }
 {
-    let sign = equals_at(w);
-    let from = behind(sign, w.len());
-    let place = words::hex(&w[..sign], 0xFF);
-    let value = words::hex(&w[from..], 0xFFFF);
+    let (place, rest) = w.split_at(equals_at(w));
+    let value = match rest.split_first() {
+        Some((_, value)) => value,
+        None => rest,
+    };
     Pair {
-        good: place.good & value.good,
-        place: place.value,
-        value: value.value,
+        place: words::hex(place, 0xFF),
+        value: words::hex(value, 0xFFFF),
     }
 }
 
+fn is_pair(w: &[u8]) -> bool
+    ensures { result ≡ is_pair w.now }
+{
+    let p = pair_in(w);
+    p.place.is_some() & p.value.is_some()
+}
+
+// Whether the words from k on are all pairs.
+fn are_pairs(line: &[u8], k: usize) -> bool
+    ensures { result ≡ are_pairs (drop k (words line.now)) }
+{
+    Words(words::after_words(line, k)).all(|w| is_pair(w))
+}
+
 // As many zeros as the longest page has.
+#[tactic(auto, unfolding(crate::specs::Pairs::zeros))]
 fn blank() -> [u8; 1024]
     ensures { result ≡ zeros 0x400 }
 {
     [0u8; 1024]
 }
 
-// The pairs from word k on.
-fn read_pairs(line: &[u8], k: usize) -> ReadPairs
-    ensures { (result.good ≡ are_pairs (drop k (words line.now))) × (result.bytes ≡ with_pairs (zeros 0x400) (drop k (words line.now))) }
+// What the pairs from word k on make of the longest page.
+fn read_pairs(line: &[u8], k: usize) -> [u8; 1024]
+    ensures { result ≡ with_pairs (zeros 0x400) (drop k (words line.now)) }
 {
     let mut bytes = blank();
-    let mut good = true;
-    let mut from = words::after_words(line, k);
-    loop {
-        let w = words::next_word(line, from);
-        let at = w.at;
-        let end = w.at + w.len;
-        if w.len == 0 {
-            return ReadPairs { good, bytes };
-        }
-        let p = pair_in(&line[at..end]);
-        let place = 2 * p.place as usize;
-        bytes[place] = (p.value % 256) as u8;
-        bytes[place + 1] = (p.value / 256) as u8;
-        good = good & p.good;
-        from = end;
+    for w in Words(words::after_words(line, k)) {
+        let p = pair_in(w);
+        let place = 2 * p.place.unwrap_or(0) as usize;
+        let value = (p.value.unwrap_or(0) as u16).to_le_bytes();
+        bytes[place..place + 2].copy_from_slice(&value);
     }
+    bytes
 }
 
 // The page of a line whose pairs are the words from k on.
@@ -99,38 +86,28 @@ pub fn page_of(text: &[u8], k: usize, len: u32) -> LinePage
     ensures { (take result.len result.bytes ≡ page_of k len text.now) × (result.len ≤ 1024) }
 {
     let end = words::without_return(text);
-    let n = asked::buffer_len(len);
-    let read = read_pairs(&text[..end], k);
-    let bytes = read.bytes;
-    if n == 512 {
-        return LinePage { bytes, len: n };
-    }
-    LinePage {
-        bytes: blank(),
-        len: n,
-    }
+    let len = asked::buffer_len(len);
+    let bytes = if len == 512 {
+        read_pairs(&text[..end], k)
+    } else {
+        blank()
+    };
+    LinePage { bytes, len }
 }
 
-pub fn faults_line(line: &[u8]) -> Line
+#[tactic(auto, unfolding(crate::specs::Pairs::faults_line))]
+pub fn faults_line(line: &[u8]) -> Option<Line>
     ensures { result ≡ faults_line line.now }
 {
-    let len = words::number_at(line, 1, 0x400);
-    let read = read_pairs(line, 2);
-    asked::offered(
-        len.good & read.good,
-        Line::Asks(CallLine::PageFaults(len.value)),
-    )
+    let len = words::number_at(line, 1, 0x400)?;
+    are_pairs(line, 2).then_some(Line::Asks(CallLine::PageFaults(len)))
 }
 
-pub fn record_line(line: &[u8]) -> Line
+#[tactic(auto, unfolding(crate::specs::Pairs::record_line))]
+pub fn record_line(line: &[u8]) -> Option<Line>
     ensures { result ≡ record_line line.now }
 {
-    let place = words::name_at(line, 1, b"A B C Y Z");
-    let len = words::number_at(line, 2, 0x400);
-    let read = read_pairs(line, 3);
-    let c = asked::condition_at(place);
-    asked::offered(
-        (place < 5) & len.good & read.good,
-        Line::Asks(CallLine::PageRecord(c, len.value)),
-    )
+    let c = asked::condition_named(line, 1)?;
+    let len = words::number_at(line, 2, 0x400)?;
+    are_pairs(line, 3).then_some(Line::Asks(CallLine::PageRecord(c, len)))
 }

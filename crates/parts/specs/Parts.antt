@@ -1,66 +1,60 @@
 -- The format page, "Set-up": the lines `ed`, `c`, `state` and `counts` of a block, and `m` of a `make` block. Assumes nothing.
-use Rattle.std.specs.Prelude.{Bool, cond, ◌&&◌, List, [], ◌∷◌, ℕ, ◌+◌, ◌-◌, eqb, ltb}
-use Rattle.std.specs.Bool.{beq}
+use Rattle.std.specs.Prelude.{Option, Some, None, List, [], ◌∷◌, ℕ, ◌+◌}
 use Rattle.asked.specs.declared.Line.{Line}
 use Rattle.asked.specs.declared.Line.TheVariants.{Sets, Tells}
 use Rattle.asked.specs.declared.Part.TheVariants.{IsOf, Settings, Stands, HasCounts}
 use Rattle.asked.specs.declared.State.{State}
-use Rattle.conditions.specs.Conditions.{condition_at}
 use Rattle.conditions.specs.declared.Cause.{Cause}
 use Rattle.conditions.specs.declared.Cause.TheVariants.{Timer, Command}
+use Rattle.conditions.specs.declared.Condition.{Condition}
+use Rattle.conditions.specs.declared.Condition.TheVariants.{IdleA, IdleB, IdleC, StandbyY, StandbyZ}
 use Rattle.conditions.specs.declared.Power.{Power}
 use Rattle.conditions.specs.declared.Power.TheVariants.{Active, Low}
 use Rattle.drive.specs.Drives.{with_settings, made_record}
-use Rattle.drive.specs.declared.Made.{Made}
+use Rattle.drive.specs.declared.Record.{Record}
+use Rattle.drive.specs.declared.Setting.{Setting}
 use Rattle.words.specs.Codes.{codes}
 use Rattle.asked.specs.Editions.{edition_from}
-use Rattle.asked.specs.Offers.{offered}
-use Rattle.words.specs.Fields.{has_words, name_in, wide_in, flag_in, condition_letters}
-use Rattle.parts.specs.declared.ReadEntries.{ReadEntries}
-use Rattle.parts.specs.declared.ReadRecord.{ReadRecord}
-use Rattle.parts.specs.declared.ReadSetting.{ReadSetting}
-use Rattle.parts.specs.declared.ReadTally.{ReadTally}
+use Rattle.asked.specs.Kinds.{kind_in, condition_in}
+use Rattle.asked.specs.Offers.{offered, ◌then◌}
+use Rattle.words.specs.Fields.{has_words, wide_in, flag_in, condition_letters}
 
 -- ---- c X SUP SAV CHG REC DE DT SE ST CE CT
 
 -- "default, saved, current, each as enabled flag and timer".
-abbrev pub setting_in : ℕ → List ℕ → ReadSetting
-setting_in k line = record {
-  good = (flag_in k line).good && (wide_in (k + 1) line).good;
-  value = record { enabled = (flag_in k line).value; timer = record { 0 = (wide_in (k + 1) line).value } };
-}
+abbrev pub setting_in : ℕ → List ℕ → Option Setting
+setting_in k line =
+    flag_in k line then λ enabled.
+    wide_in (k + 1) line then λ timer.
+    Some (record { enabled = enabled; timer = record { 0 = timer } })
 
--- "flags; recovery in ms": what the maker says of a condition, which `c` and `m` have in common.
-abbrev pub maker_in : List ℕ → Made
-maker_in line = record {
-  supported = (flag_in 2 line).value;
-  saveable = (flag_in 3 line).value;
-  changeable = (flag_in 4 line).value;
-  recovery = record { 0 = (wide_in 5 line).value };
-  default = (setting_in 6 line).value;
-}
-
--- "manufacture": the record that it makes of that.
-abbrev pub made_in : List ℕ → ReadRecord
-made_in line = record {
-  good =
-      ((flag_in 2 line).good && (flag_in 3 line).good && (flag_in 4 line).good)
-      && (wide_in 5 line).good
-      && (setting_in 6 line).good;
-  value = made_record 0 (maker_in line);
-}
+-- "flags; recovery in ms": what the maker says of a condition, which `c` and `m` have in common, as the record that manufacture makes of it.
+abbrev pub made_in : List ℕ → Option Record
+made_in line =
+    flag_in 2 line then λ supported.
+    flag_in 3 line then λ saveable.
+    flag_in 4 line then λ changeable.
+    wide_in 5 line then λ recovery.
+    setting_in 6 line then λ default.
+    Some (made_record 0 (record {
+      supported = supported;
+      saveable = saveable;
+      changeable = changeable;
+      recovery = record { 0 = recovery };
+      default = default;
+    }))
 
 -- The same with the saved and the current setting that `c` gives.
-abbrev pub record_in : List ℕ → ReadRecord
-record_in line = record {
-  good = (made_in line).good && (setting_in 8 line).good && (setting_in 10 line).good;
-  value = with_settings (setting_in 8 line).value (setting_in 10 line).value (made_in line).value;
-}
+abbrev pub record_in : List ℕ → Option Record
+record_in line =
+    made_in line then λ made.
+    setting_in 8 line then λ saved.
+    setting_in 10 line then λ current.
+    Some (with_settings saved current made)
 
-unfoldable pub condition_line : List ℕ → Line
+unfoldable pub condition_line : List ℕ → Option Line
 condition_line line =
-    offered (has_words 12 line && ltb (name_in condition_letters 1 line) 5 && (record_in line).good)
-    (Sets (Settings (condition_at (name_in condition_letters 1 line)) (record_in line).value))
+    offered (has_words 12 line) (condition_in 1 line then λ c. record_in line then λ r. Some (Sets (Settings c r)))
 
 -- ---- state COND CAUSE IDLE STOPPED UNSAVED
 
@@ -68,76 +62,66 @@ condition_line line =
 abbrev pub condition_names : List (List ℕ)
 condition_names = codes "active" ∷ condition_letters
 
+abbrev pub below_active : List (Option Condition)
+below_active = None ∷ Some IdleA ∷ Some IdleB ∷ Some IdleC ∷ Some StandbyY ∷ Some StandbyZ ∷ []
+
 abbrev pub cause_names : List (List ℕ)
 cause_names = codes "none" ∷ codes "timer" ∷ codes "command" ∷ []
 
-abbrev pub cause_from : ℕ → Cause
-cause_from place = cond (eqb place 1) Timer Command
-
-abbrev pub power_from : ℕ → ℕ → Power
-power_from condition cause = cond (eqb condition 0) Active (Low (condition_at (condition - 1)) (cause_from cause))
+abbrev pub causes : List (Option Cause)
+causes = None ∷ Some Timer ∷ Some Command ∷ []
 
 -- "a cause in Active or none below it" is a bad line.
-abbrev pub is_power : ℕ → ℕ → Bool
-is_power condition cause = ltb condition 6 && ltb cause 3 && beq (eqb condition 0) (eqb cause 0)
+abbrev pub power_from : Option Condition → Option Cause → Option Power
+power_from None None = Some Active
+power_from (Some c) (Some why) = Some (Low c why)
+power_from None (Some why) = None
+power_from (Some c) None = None
 
-abbrev pub state_in : List ℕ → State
-state_in line = record {
-  power = power_from (name_in condition_names 1 line) (name_in cause_names 2 line);
-  idle = record { 0 = (wide_in 3 line).value };
-  stopped = (flag_in 4 line).value;
-  unsaved = (flag_in 5 line).value;
-}
+abbrev pub power_in : List ℕ → Option Power
+power_in line =
+    kind_in condition_names below_active 1 line then λ condition.
+    kind_in cause_names causes 2 line then λ cause.
+    power_from condition cause
 
-unfoldable pub state_line : List ℕ → Line
-state_line line =
-    offered
-    (has_words 6 line
-    && is_power (name_in condition_names 1 line) (name_in cause_names 2 line)
-    && (wide_in 3 line).good && (flag_in 4 line).good && (flag_in 5 line).good)
-    (Sets (Stands (state_in line)))
+abbrev pub state_in : List ℕ → Option State
+state_in line =
+    power_in line then λ power.
+    wide_in 3 line then λ idle.
+    flag_in 4 line then λ stopped.
+    flag_in 5 line then λ unsaved.
+    Some (record { power = power; idle = record { 0 = idle }; stopped = stopped; unsaved = unsaved })
+
+unfoldable pub state_line : List ℕ → Option Line
+state_line line = offered (has_words 6 line) (state_in line then λ state. Some (Sets (Stands state)))
 
 -- ---- counts and twelve numbers
 
 -- "each timer then other".
-abbrev pub entries_in : ℕ → List ℕ → ReadEntries
-entries_in k line = record {
-  good = (wide_in k line).good && (wide_in (k + 1) line).good;
-  value = record { timer = (wide_in k line).value; other = (wide_in (k + 1) line).value };
-}
+abbrev pub row_in : ℕ → List ℕ → Option (List ℕ)
+row_in k line = wide_in k line then λ timer. wide_in (k + 1) line then λ other. Some (timer ∷ other ∷ [])
 
 -- "rows in power order".
-abbrev pub tally_in : List ℕ → ReadTally
-tally_in line = record {
-  good =
-      (entries_in 1 line).good
-      && (entries_in 3 line).good
-      && (entries_in 5 line).good
-      && (entries_in 7 line).good
-      && (entries_in 9 line).good
-      && (entries_in 11 line).good;
-  value = record {
-    active = (entries_in 1 line).value;
-    a = (entries_in 3 line).value;
-    b = (entries_in 5 line).value;
-    c = (entries_in 7 line).value;
-    y = (entries_in 9 line).value;
-    z = (entries_in 11 line).value;
-  };
-}
+abbrev pub table_in : List ℕ → Option (List (List ℕ))
+table_in line =
+    row_in 1 line then λ active.
+    row_in 3 line then λ a.
+    row_in 5 line then λ b.
+    row_in 7 line then λ c.
+    row_in 9 line then λ y.
+    row_in 11 line then λ z.
+    Some (active ∷ a ∷ b ∷ c ∷ y ∷ z ∷ [])
 
-unfoldable pub counts_line : List ℕ → Line
-counts_line line = offered (has_words 13 line && (tally_in line).good) (Sets (HasCounts (tally_in line).value))
+unfoldable pub counts_line : List ℕ → Option Line
+counts_line line = offered (has_words 13 line) (table_in line then λ table. Some (Sets (HasCounts table)))
 
 -- ---- ed E
 
 -- "`ed 0` or `ed 1` (published)".
-unfoldable pub edition_line : List ℕ → Line
-edition_line line = offered (has_words 2 line && (flag_in 1 line).good) (Sets (IsOf (edition_from (flag_in 1 line).value)))
+unfoldable pub edition_line : List ℕ → Option Line
+edition_line line = offered (has_words 2 line) (flag_in 1 line then λ published. Some (Sets (IsOf (edition_from published))))
 
 -- ---- m X SUP SAV CHG REC DE DT
 
-unfoldable pub maker_line : List ℕ → Line
-maker_line line =
-    offered (has_words 8 line && ltb (name_in condition_letters 1 line) 5 && (made_in line).good)
-    (Tells (condition_at (name_in condition_letters 1 line)) (made_in line).value)
+unfoldable pub maker_line : List ℕ → Option Line
+maker_line line = offered (has_words 8 line) (condition_in 1 line then λ c. made_in line then λ made. Some (Tells c made))

@@ -7,8 +7,8 @@ ghost use Rattle.phrases.specs.Phrases;
 ghost use Rattle.phrases.specs.Phrases.{slashed_text, refused_text, called_text, accepted_text, registers_text, sent_text, quiet_text, end_head, end_sense, end_text, progress_text, before_bytes};
 
 use digits::Text;
-use operations::{Acceptance, Next, Progress, Report, Status};
-use refusals::{Answer, Refusal, SenseDue};
+use operations::{Acceptance, Progress, Report, Status};
+use refusals::Refusal;
 use registers::Registers;
 use senses::Sense;
 
@@ -18,12 +18,12 @@ fn put_sense(t: Text, s: Sense) -> Text
     t.put_sense(s.key, s.asc, s.ascq, b' ', b'/')
 }
 
-fn put_due(t: Text, s: SenseDue) -> Text
+fn put_due(t: Text, s: Option<Sense>) -> Text
     ensures { said result ≡ cut (said t ++ Phrases.due_text s) }
 {
     match s {
-        SenseDue::NoSense => t.put_all(b" -"),
-        SenseDue::WithSense(sense) => put_sense(t, sense),
+        None => t.put_all(b" -"),
+        Some(sense) => put_sense(t, sense),
     }
 }
 
@@ -34,22 +34,22 @@ fn refused(r: Refusal) -> Text
     put_due(number, refusals::sense_of(r))
 }
 
-pub fn called(a: Answer) -> Text
+pub fn called(a: Result<(), Refusal>) -> Text
     ensures { said result ≡ cut (called_text a) }
 {
     match a {
-        Answer::Done => Text::of(b"ok"),
-        Answer::Refused(r) => refused(r),
+        Ok(()) => Text::of(b"ok"),
+        Err(r) => refused(r),
     }
 }
 
-pub fn accepted(a: Acceptance) -> Text
+pub fn accepted(a: Result<Acceptance, Refusal>) -> Text
     ensures { said result ≡ cut (accepted_text a) }
 {
     match a {
-        Acceptance::GoodDue => Text::of(b"ok good"),
-        Acceptance::Pending => Text::of(b"ok pending"),
-        Acceptance::NotAccepted(r) => refused(r),
+        Ok(Acceptance::GoodDue) => Text::of(b"ok good"),
+        Ok(Acceptance::Pending) => Text::of(b"ok pending"),
+        Err(r) => refused(r),
     }
 }
 
@@ -60,26 +60,26 @@ fn put_registers(t: Text, q: Registers) -> Text
     registers.put_number(q.count as u32).put_number(q.lba)
 }
 
-pub fn sent(n: Next) -> Text
+pub fn sent(n: Result<Registers, Refusal>) -> Text
     ensures { said result ≡ cut (sent_text n) }
 {
     match n {
-        Next::Send(q) => put_registers(Text::of(b"ok"), q),
-        Next::NotSent(r) => refused(r),
+        Ok(q) => put_registers(Text::of(b"ok"), q),
+        Err(r) => refused(r),
     }
 }
 
 // With no status due, a sense is one that is now held.
-fn quiet_or_held(s: SenseDue) -> Text
+fn quiet_or_held(s: Option<Sense>) -> Text
     ensures { said result ≡ cut (quiet_text s) }
 {
     match s {
-        SenseDue::NoSense => Text::of(b"ok end quiet"),
-        SenseDue::WithSense(_) => Text::of(b"ok end held"),
+        None => Text::of(b"ok end quiet"),
+        Some(_) => Text::of(b"ok end held"),
     }
 }
 
-fn end_head(status: Status, s: SenseDue) -> Text
+fn end_head(status: Status, s: Option<Sense>) -> Text
     ensures { said result ≡ cut (end_head status s) }
 {
     match status {
@@ -89,12 +89,12 @@ fn end_head(status: Status, s: SenseDue) -> Text
     }
 }
 
-fn put_end_sense(t: Text, s: SenseDue) -> Text
+fn put_end_sense(t: Text, s: Option<Sense>) -> Text
     ensures { said result ≡ cut (said t ++ end_sense s) }
 {
     match s {
-        SenseDue::NoSense => t,
-        SenseDue::WithSense(sense) => put_sense(t, sense),
+        None => t,
+        Some(sense) => put_sense(t, sense),
     }
 }
 
@@ -105,21 +105,21 @@ fn ended(r: Report) -> Text
     put_end_sense(head, r.sense).put_number(r.flushes as u32)
 }
 
-pub fn progressed(p: Progress) -> Text
+pub fn progressed(p: Result<Progress, Refusal>) -> Text
     ensures { said result ≡ cut (progress_text p) }
 {
     match p {
-        Progress::More => Text::of(b"ok more"),
-        Progress::Ended(r) => ended(r),
-        Progress::NotTaken(r) => refused(r),
+        Ok(Progress::More) => Text::of(b"ok more"),
+        Ok(Progress::Ended(r)) => ended(r),
+        Err(r) => refused(r),
     }
 }
 
-pub fn before_bytes(a: Answer) -> Text
+pub fn before_bytes(a: Result<(), Refusal>) -> Text
     ensures { said result ≡ cut (before_bytes a) }
 {
     match a {
-        Answer::Done => Text::of(b"ok "),
-        Answer::Refused(r) => refused(r).put_all(b" buf "),
+        Ok(()) => Text::of(b"ok "),
+        Err(r) => refused(r).put_all(b" buf "),
     }
 }

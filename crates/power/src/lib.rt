@@ -18,9 +18,9 @@ pub use engine::{hard_reset, power_on, read, soft_reset, tick, write};
 // START STOP UNIT.
 pub use bridge::{StartStopped, start_stop_unit};
 pub use exchange::{Asked, Replied, answer, next_command};
-pub use operations::{Acceptance, Next, Progress, Report, Status};
+pub use operations::{Acceptance, Progress, Report, Status};
 pub use requests::{Failure, Reply, Request, Stage, Target};
-pub use unit::{Held, HostHeld, HostSlot, Out, Slot};
+pub use unit::Slot;
 
 // Sense and log bytes.
 pub use readouts::{log_page, request_sense};
@@ -34,10 +34,8 @@ pub use readouts::{transition_counts, transitions_page};
 
 // Another maker's log page (document 02, request (v)).
 pub use faults::{Fault, FaultKind, Faults, kind_number, listed_count};
-pub use reader::{
-    Checked, PageRecord, Reader, open_page, page_faults, page_record, read_faults, read_record,
-};
+pub use reader::{Reader, open_page, page_faults, page_record, read_faults, read_record};
 
 // Numbers given back.
 pub use outcomes::Called;
-pub use refusals::{Answer, Refusal, SenseDue, number, sense_of};
+pub use refusals::{Refusal, number, sense_of};

@@ -19,73 +19,41 @@ fn flag_byte(r: Record) -> u8
     pages::low(made + on)
 }
 
-// A recovery time in tenths of a second, rounded up. A quotient and a rest: the sum with 99 might not hold in 32 bits.
+// A recovery time in tenths of a second, rounded up.
 fn tenths_up(recovery: Millis) -> Tenths
     ensures { result.0 ≡ tenths_up recovery.0 }
 {
-    let whole = recovery.0 / 100;
-    if recovery.0 % 100 == 0 {
-        Tenths(whole)
-    } else {
-        Tenths(whole + 1)
-    }
+    Tenths(recovery.0.div_ceil(100))
 }
 
 // A number's four bytes, low first.
 fn low_first(n: u32) -> [u8; 4]
     ensures { result ≡ low_first n }
 {
-    [
-        (n % 256) as u8,
-        (n / 256 % 256) as u8,
-        (n / 256 / 256 % 256) as u8,
-        (n / 256 / 256 / 256 % 256) as u8,
-    ]
+    n.to_le_bytes()
 }
 
 // The bytes of a descriptor that the request names: the rest of its 64 are zero.
 fn named_bytes(r: Record) -> [u8; 20]
     ensures { result ≡ named_bytes r }
 {
-    let d = low_first(r.default.timer.0);
-    let s = low_first(r.saved.timer.0);
-    let c = low_first(r.current.timer.0);
-    let t = low_first(tenths_up(r.recovery).0);
-    [
-        0,
-        flag_byte(r),
-        0,
-        0,
-        d[0],
-        d[1],
-        d[2],
-        d[3],
-        s[0],
-        s[1],
-        s[2],
-        s[3],
-        c[0],
-        c[1],
-        c[2],
-        c[3],
-        t[0],
-        t[1],
-        t[2],
-        t[3],
-    ]
+    let mut bytes = [0u8; 20];
+    bytes[1] = flag_byte(r);
+    bytes[4..8].copy_from_slice(&low_first(r.default.timer.0));
+    bytes[8..12].copy_from_slice(&low_first(r.saved.timer.0));
+    bytes[12..16].copy_from_slice(&low_first(r.current.timer.0));
+    bytes[16..20].copy_from_slice(&low_first(tenths_up(r.recovery).0));
+    bytes
 }
 
 // Page 0, built whole: Idle_A, Idle_B and Idle_C.
 fn idle_page(records: [Record; 5]) -> [u8; 512]
     ensures { result ≡ descriptor_page 0 records }
 {
-    let a = named_bytes(records[0]);
-    let b = named_bytes(records[1]);
-    let c = named_bytes(records[2]);
     let mut page = [0u8; 512];
-    rows::copy_in(&a, &mut page, 0);
-    rows::copy_in(&b, &mut page, 64);
-    rows::copy_in(&c, &mut page, 128);
+    rows::copy_in(&named_bytes(records[0]), &mut page, 0);
+    rows::copy_in(&named_bytes(records[1]), &mut page, 64);
+    rows::copy_in(&named_bytes(records[2]), &mut page, 128);
     page
 }
 
@@ -93,11 +61,9 @@ fn idle_page(records: [Record; 5]) -> [u8; 512]
 fn standby_page(records: [Record; 5]) -> [u8; 512]
     ensures { result ≡ descriptor_page 1 records }
 {
-    let y = named_bytes(records[3]);
-    let z = named_bytes(records[4]);
     let mut page = [0u8; 512];
-    rows::copy_in(&y, &mut page, 384);
-    rows::copy_in(&z, &mut page, 448);
+    rows::copy_in(&named_bytes(records[3]), &mut page, 384);
+    rows::copy_in(&named_bytes(records[4]), &mut page, 448);
     page
 }
 

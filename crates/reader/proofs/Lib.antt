@@ -1,3 +1,1 @@
-pub mod ByVerdict
 pub mod Outcomes
-pub mod OneResult

@@ -2,14 +2,16 @@
 // and what is wrong with the page.
 #![tactic(auto)]
 
-ghost use Rattle.std.specs.Prelude.{◌≡◌};
+ghost use Rattle.std.specs.Prelude.{◌≡◌, Ok, Err};
+ghost use Rattle.std.specs.Result.{MatchResult};
 ghost use Rattle.conditions.specs.Conditions.{condition_at};
-ghost use Rattle.reader.specs.PageCalls.{record_outcome, faults_outcome};
+ghost use Rattle.refusals.specs.Refusals.{lowest};
+ghost use Rattle.reader.specs.PageCalls.{reader_rows, record_outcome, faults_outcome};
 
 use conditions::Condition;
 use drive::Record;
 use faults::Faults;
-use refusals::{Answer, Refusal, Verdict};
+use refusals::Refusal;
 
 // The page where it lies, and the place of a condition in falling power. A place above 4 is read as the first.
 #[derive(Clone, Copy)]
@@ -18,47 +20,30 @@ pub struct Reader<'a> {
     pub place: usize,
 }
 
-// A condition's record as the page has it.
-#[derive(Clone, Copy)]
-pub enum PageRecord {
-    Found(Record),
-    NotRead(Refusal),
-}
-
-// What is wrong with a page. Beside a refusal the list is empty and says nothing of the page: the answer tells.
-#[derive(Clone, Copy)]
-pub struct Checked {
-    pub answer: Answer,
-    pub faults: Faults,
+// The page as one of 512 bytes by its type, or number 1.
+fn whole(bytes: &[u8]) -> Result<&[u8; 512], Refusal>
+    ensures { MatchResult result (λ page. (page.now ≡ bytes.now) × (lowest (reader_rows bytes.now) ≡ Ok tt)) (λ r. lowest (reader_rows bytes.now) ≡ Err r) }
+{
+    refusals::reader_verdict(bytes.len())?;
+    Ok(bytes.try_into().unwrap())
 }
 
 // The work on slice and number: the record of the condition of that place.
-fn record_in(page: &[u8], place: usize) -> PageRecord
-    ensures { result ≡ record_outcome page.now (condition_at place) }
+#[tactic(auto, unfolding(crate::specs::PageCalls::record_outcome))]
+fn record_in(bytes: &[u8], place: usize) -> Result<Record, Refusal>
+    ensures { result ≡ record_outcome bytes.now (condition_at place) }
 {
+    let page = whole(bytes)?;
     let at = if place < 5 { place } else { 0 };
-    let v = refusals::reader_verdict(page.len());
-    match v {
-        Verdict::Clear => PageRecord::Found(faults::record_of(page, at)),
-        Verdict::Given(r) => PageRecord::NotRead(r),
-    }
+    Ok(faults::record_of(page, at))
 }
 
-// And the page's faults.
-fn faults_in(page: &[u8]) -> Checked
-    ensures { result ≡ faults_outcome page.now }
+// And what is wrong with a page, given by its bytes.
+#[tactic(auto, unfolding(crate::specs::PageCalls::faults_outcome))]
+fn faults_in(bytes: &[u8]) -> Result<Faults, Refusal>
+    ensures { result ≡ faults_outcome bytes.now }
 {
-    let v = refusals::reader_verdict(page.len());
-    match v {
-        Verdict::Clear => Checked {
-            answer: Answer::Done,
-            faults: faults::faults_of(page),
-        },
-        Verdict::Given(r) => Checked {
-            answer: Answer::Refused(r),
-            faults: faults::no_faults(),
-        },
-    }
+    Ok(faults::faults_of(whole(bytes)?))
 }
 
 // A reader of the page, at a condition's place. It looks at nothing: another length is refused when it is read.
@@ -69,35 +54,35 @@ pub fn open_page<'a>(page: &'a [u8], place: usize) -> Reader<'a>
 }
 
 // The record at the reader's place.
-pub fn read_record<'a>(r: Reader<'a>) -> PageRecord
+pub fn read_record<'a>(r: Reader<'a>) -> Result<Record, Refusal>
     ensures { result ≡ record_outcome r.entry.page.now (condition_at r.entry.place) }
 {
     record_in(r.page, r.place)
 }
 
 // The faults of the reader's page, whatever its place.
-pub fn read_faults<'a>(r: Reader<'a>) -> Checked
+pub fn read_faults<'a>(r: Reader<'a>) -> Result<Faults, Refusal>
     ensures { result ≡ faults_outcome r.entry.page.now }
 {
     faults_in(r.page)
 }
 
 // The same with plain parameters, for callers that hold no reader.
-fn record_at(page: &[u8], place: usize) -> PageRecord
+fn record_at(page: &[u8], place: usize) -> Result<Record, Refusal>
     ensures { result ≡ record_outcome page.now (condition_at place) }
 {
     read_record(open_page(page, place))
 }
 
 // A condition's record as the page has it.
-pub fn page_record(page: &[u8], c: Condition) -> PageRecord
+pub fn page_record(page: &[u8], c: Condition) -> Result<Record, Refusal>
     ensures { result ≡ record_outcome page.now c }
 {
     record_at(page, conditions::place_of(c))
 }
 
 // What is wrong with the page: how many faults, and the first 64.
-pub fn page_faults(page: &[u8]) -> Checked
+pub fn page_faults(page: &[u8]) -> Result<Faults, Refusal>
     ensures { result ≡ faults_outcome page.now }
 {
     read_faults(open_page(page, 0))

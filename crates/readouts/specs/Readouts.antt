@@ -1,5 +1,5 @@
 -- The whole outcome of REQUEST SENSE and of the log pages: document 01, "Sense and log bytes", and document 02, requests (i), (vi) and (vii).
-use Rattle.std.specs.Prelude.{true, false, List, ℕ, length}
+use Rattle.std.specs.Prelude.{true, false, List, ℕ, length, Ok, Err, Some, None, Option}
 use Rattle.conditions.specs.declared.Power.{Power}
 use Rattle.senses.specs.Senses.{sense_bytes, power_sense}
 use Rattle.pages.specs.Logs.{log_bytes}
@@ -10,13 +10,11 @@ use Rattle.unit.specs.Units.{is_out, held_of, well_formed, with_held}
 use Rattle.requests.specs.Requests.{failure_sense}
 use Rattle.refusals.specs.Refusals.{Row, lowest}
 use Rattle.refusals.specs.Verdicts.{rows_of_sense, rows_of_page, rows_of_new_page}
-use Rattle.refusals.specs.declared.Verdict.{Verdict}
-use Rattle.refusals.specs.declared.Verdict.TheVariants.{Clear, Given}
-use Rattle.unit.specs.declared.Held.{Held}
-use Rattle.unit.specs.declared.Held.TheVariants.{Nothing, Holds}
 use Rattle.outcomes.specs.declared.Called.{Called}
 use Rattle.unit.specs.declared.Unit.{Unit}
 use Rattle.outcomes.specs.Settled.{settled}
+use Rattle.refusals.specs.Refusals.{Verdict}
+use Rattle.requests.specs.declared.Failure.{Failure}
 
 -- ---- a lent buffer
 
@@ -27,8 +25,8 @@ pub record Filled : Type 0 where
 
 -- "A refusal writes to no buffer".
 abbrev pub filled : Unit → Unit → List ℕ → List ℕ → Verdict → Filled
-filled u effect bytes buffer Clear = record { called = settled u effect Clear; buffer = bytes }
-filled u effect bytes buffer (Given r) = record { called = settled u effect (Given r); buffer = buffer }
+filled u effect bytes buffer (Ok _) = record { called = settled u effect (Ok tt); buffer = bytes }
+filled u effect bytes buffer (Err r) = record { called = settled u effect (Err r); buffer = buffer }
 
 -- ---- REQUEST SENSE
 
@@ -36,13 +34,13 @@ abbrev pub sense_rows : Unit → ℕ → List ℕ → List Row
 sense_rows u host buffer = rows_of_sense (length buffer) host (well_formed u) (is_out u.out)
 
 -- "The host's held deferred sense comes first and is then dropped (H); else key 0 with the condition".
-abbrev pub told_bytes : Power → Held → List ℕ
-told_bytes p Nothing = sense_bytes false (power_sense p)
-told_bytes p (Holds f) = sense_bytes true (failure_sense f)
+abbrev pub told_bytes : Power → Option Failure → List ℕ
+told_bytes p None = sense_bytes false (power_sense p)
+told_bytes p (Some f) = sense_bytes true (failure_sense f)
 
 -- "and is then dropped". Request (vii): "It must no longer set the idle count to 0."
 abbrev pub sense_effect : ℕ → Unit → Unit
-sense_effect host u = with_held host Nothing u
+sense_effect host u = with_held host None u
 
 unfoldable pub sense_outcome : Unit → ℕ → List ℕ → Filled
 sense_outcome u host buffer =

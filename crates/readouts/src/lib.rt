@@ -7,16 +7,17 @@ ghost use Rattle.unit.specs.Units.{held_of};
 
 use conditions::Power;
 use outcomes::Called;
-use refusals::{Answer, Verdict};
-use unit::{Held, Unit};
+use refusals::Refusal;
+use requests::Failure;
+use unit::Unit;
 
 // A held deferred sense comes first, else the condition.
-fn told_bytes(p: Power, h: Held) -> [u8; 18]
+fn told_bytes(p: Power, h: Option<Failure>) -> [u8; 18]
     ensures { result ≡ told_bytes p h }
 {
     match h {
-        Held::Nothing => senses::sense_bytes(false, senses::sense_of_power(p)),
-        Held::Holds(f) => senses::sense_bytes(true, requests::failure_sense(f)),
+        None => senses::sense_bytes(false, senses::sense_of_power(p)),
+        Some(f) => senses::sense_bytes(true, requests::failure_sense(f)),
     }
 }
 
@@ -37,49 +38,39 @@ pub fn request_sense(u: Unit, host: u32, buffer: &mut [u8]) -> Called
     let out = u.out;
     let v = refusals::sense_verdict(buffer.len(), host, ok, unit::is_out(out));
     match v {
-        Verdict::Clear => {
+        Ok(()) => {
             let bytes = told(u, host);
             rows::copy_in(&bytes, buffer, 0);
-            outcomes::settle(Verdict::Clear, unit::with_held(u, host, Held::Nothing))
+            outcomes::settle(Ok(()), unit::with_held(u, host, None))
         }
-        Verdict::Given(r) => outcomes::settle(Verdict::Given(r), u),
+        Err(r) => outcomes::settle(Err(r), u),
     }
 }
 
 // The Power Conditions log page, into the lent buffer. The record stays the caller's, unchanged.
-pub fn log_page(u: Unit, buffer: &mut [u8]) -> Answer
+pub fn log_page(u: Unit, buffer: &mut [u8]) -> Result<(), Refusal>
     ensures { (result ≡ (log_outcome u buffer.old).called.answer) × (buffer.new ≡ (log_outcome u buffer.old).buffer) }
 {
     let ok = unit::unit_ok(u);
-    let v = refusals::page_verdict(512, buffer.len(), ok);
-    match v {
-        Verdict::Clear => {
-            let records = u.drive.records;
-            let page = pages::log_page(records);
-            rows::copy_in(&page, buffer, 0);
-            Answer::Done
-        }
-        Verdict::Given(r) => Answer::Refused(r),
-    }
+    refusals::page_verdict(512, buffer.len(), ok)?;
+    let records = u.drive.records;
+    let page = pages::log_page(records);
+    rows::copy_in(&page, buffer, 0);
+    Ok(())
 }
 
 // A log page of published ACS-2, 0 or 1, into the lent buffer. The record stays the caller's, unchanged.
-pub fn new_page(u: Unit, number: u32, buffer: &mut [u8]) -> Answer
+pub fn new_page(u: Unit, number: u32, buffer: &mut [u8]) -> Result<(), Refusal>
     ensures { (result ≡ (new_page_outcome u number buffer.old).called.answer) × (buffer.new ≡ (new_page_outcome u number buffer.old).buffer) }
 {
     let ok = unit::unit_ok(u);
     let edition = u.edition;
     let lacking = published::lacks_page(edition, number);
-    let v = refusals::new_page_verdict(buffer.len(), ok, lacking);
-    match v {
-        Verdict::Clear => {
-            let records = u.drive.records;
-            let page = published::descriptor_page(number, records);
-            rows::copy_in(&page, buffer, 0);
-            Answer::Done
-        }
-        Verdict::Given(r) => Answer::Refused(r),
-    }
+    refusals::new_page_verdict(buffer.len(), ok, lacking)?;
+    let records = u.drive.records;
+    let page = published::descriptor_page(number, records);
+    rows::copy_in(&page, buffer, 0);
+    Ok(())
 }
 
 // How often the unit went into each condition: six rows in falling power, Active first, by timer and by command or use.
@@ -91,17 +82,12 @@ pub fn transition_counts(u: Unit) -> [[u32; 2]; 6]
 }
 
 // The Power Condition Transitions log page, into the lent buffer. The record stays the caller's, unchanged.
-pub fn transitions_page(u: Unit, buffer: &mut [u8]) -> Answer
+pub fn transitions_page(u: Unit, buffer: &mut [u8]) -> Result<(), Refusal>
     ensures { (result ≡ (transitions_outcome u buffer.old).called.answer) × (buffer.new ≡ (transitions_outcome u buffer.old).buffer) }
 {
     let ok = unit::unit_ok(u);
-    let v = refusals::page_verdict(52, buffer.len(), ok);
-    match v {
-        Verdict::Clear => {
-            let page = transitions::page_of(transition_counts(u));
-            rows::copy_in(&page, buffer, 0);
-            Answer::Done
-        }
-        Verdict::Given(r) => Answer::Refused(r),
-    }
+    refusals::page_verdict(52, buffer.len(), ok)?;
+    let page = transitions::page_of(transition_counts(u));
+    rows::copy_in(&page, buffer, 0);
+    Ok(())
 }

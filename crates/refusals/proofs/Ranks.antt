@@ -1,5 +1,6 @@
 -- "The lowest number that applies is given": of a table that says of each refusal when it applies, the one of lowest rank. By induction over the order,
 -- which has each refusal once.
+use Rattle.std.proofs.Common.{Ok, Err}
 use mathlib.Core.Path.{◌≡◌, refl, sym, ap, ◌∙◌}
 use mathlib.Core.Bool.{Bool, true, false, cond, true≢false}
 use mathlib.Core.List.{List, [], ◌∷◌, map}
@@ -11,7 +12,6 @@ use borrow.Author.Tests.{eq-eqb, eqb-true}
 use Rattle.refusals.specs.Refusals.{Row, ◌gives◌, number_of, order, is_same, place_among, rank_of, applies_in, lowest, rows_by, IsLowest}
 use Rattle.refusals.specs.declared.Refusal.{Refusal}
 use Rattle.refusals.specs.declared.Refusal.TheVariants.{BadLength, BadHost, BadRecord, CommandOut, NoSuchPage, HasNone, OwnWaiting, BadOpcode, BadField, IsStopped, Aborted}
-use Rattle.refusals.specs.declared.Verdict.TheVariants.{Clear, Given}
 use Rattle.refusals.proofs.Lowest.{row_passes, row_gives, not_applies, clear_not_given}
 
 -- ---- the order
@@ -49,7 +49,7 @@ module _ (f : Refusal → Bool) where
   abbrev rows_over : List Refusal → List Row
   rows_over rs = map (λ r. f r gives r) rs
 
-  none_clear : (rs : List Refusal) → ((q : Refusal) → f q ≡ false) → lowest (rows_over rs) ≡ Clear
+  none_clear : (rs : List Refusal) → ((q : Refusal) → f q ≡ false) → lowest (rows_over rs) ≡ Ok tt
   unfolding lowest
   none_clear [] h = refl
   none_clear (r ∷ rs) h = rw (h r) (none_clear rs h)
@@ -68,7 +68,7 @@ module _ (f : Refusal → Bool) where
   applies_by Aborted = refl
 
   -- No number is given exactly when none applies.
-  pub clear_exactly : lowest (rows_by f) ≡ Clear ↔ ((q : Refusal) → f q ≡ false)
+  pub clear_exactly : lowest (rows_by f) ≡ Ok tt ↔ ((q : Refusal) → f q ≡ false)
   clear_exactly = (λ h q. sym (applies_by q) ∙ not_applies (rows_by f) q h, none_clear order)
 
   place_first : (q p : Refusal) (ps : List Refusal) → is_same q p ≡ true → place_among q (p ∷ ps) ≡ 0
@@ -104,14 +104,14 @@ module _ (f : Refusal → Bool) where
         lower q k true e = ap f (is_same_lem q p e) ∙ off
         lower q k false e = a.1 q (omega (arith, after, place_later q p ps e, k))
 
-    step : (b : Bool) → f p ≡ b → cond b (Given p) (lowest (rows_over ps)) ≡ Given r → (lowest (rows_over ps) ≡ Given r → Among ps r)
+    step : (b : Bool) → f p ≡ b → cond b (Err p) (lowest (rows_over ps)) ≡ Err r → (lowest (rows_over ps) ≡ Err r → Among ps r)
         → Among (p ∷ ps) r
     step true e h more = here e (cc)
     step false e h more = later e (more h)
 
     found : (b : Bool) → is_same r p ≡ b → Among (p ∷ ps) r → place_among r (p ∷ ps) < suc (length ps)
-        → (Among ps r → place_among r ps < length ps → lowest (rows_over ps) ≡ Given r) → lowest (rows_over (p ∷ ps)) ≡ Given r
-    found true e a inside more = row_gives (f p gives p) (rows_over ps) (ap f (sym (is_same_lem r p e)) ∙ a.0) ∙ ap Given (sym (is_same_lem r p e))
+        → (Among ps r → place_among r ps < length ps → lowest (rows_over ps) ≡ Err r) → lowest (rows_over (p ∷ ps)) ≡ Err r
+    found true e a inside more = row_gives (f p gives p) (rows_over ps) (ap f (sym (is_same_lem r p e)) ∙ a.0) ∙ ap Err (sym (is_same_lem r p e))
     found false e a inside more =
         row_passes (f p gives p) (rows_over ps) (a.1 p (omega (arith, place_own p ps, after)))
         ∙ more (a.0, λ q k. lower q k (is_same q p) refl) (omega (arith, after, inside))
@@ -123,17 +123,17 @@ module _ (f : Refusal → Bool) where
         lower q k true g = a.1 q (omega (arith, place_first q p ps g, after))
         lower q k false g = a.1 q (omega (arith, place_later q p ps g, after, k))
 
-  given_lowest : (rs : List Refusal) (r : Refusal) → lowest (rows_over rs) ≡ Given r → Among rs r
+  given_lowest : (rs : List Refusal) (r : Refusal) → lowest (rows_over rs) ≡ Err r → Among rs r
   unfolding lowest
   given_lowest [] r h = absurd (clear_not_given r h)
   given_lowest (p ∷ ps) r h = step p r ps (f p) refl h (given_lowest ps r)
 
-  lowest_given : (rs : List Refusal) (r : Refusal) → Among rs r → place_among r rs < length rs → lowest (rows_over rs) ≡ Given r
+  lowest_given : (rs : List Refusal) (r : Refusal) → Among rs r → place_among r rs < length rs → lowest (rows_over rs) ≡ Err r
   lowest_given [] r a inside = absurd (omega (arith, inside))
   lowest_given (p ∷ ps) r a inside = found p r ps (is_same r p) refl a inside (lowest_given ps r)
 
   -- A number is given exactly when its row applies and the row of none of lower rank does.
-  pub given_exactly : (r : Refusal) → lowest (rows_by f) ≡ Given r ↔ IsLowest f r
+  pub given_exactly : (r : Refusal) → lowest (rows_by f) ≡ Err r ↔ IsLowest f r
   given_exactly r = (
     λ h. let a = given_lowest order r h in record { itself = a.0; none_lower = a.1 },
     λ l. lowest_given order r (l.itself, l.none_lower) (stands r).1,

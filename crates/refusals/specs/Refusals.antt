@@ -1,14 +1,9 @@
 -- Document 01, "Numbers given back": the numbers, their sense, the order in which they are looked at, and the first of it that applies; document 02's
 -- numbers too.
-use Rattle.std.specs.Prelude.{Bool, true, false, cond, List, [], ◌∷◌, map, ◌≡◌, ℕ, suc, ◌<◌, eqb}
+use Rattle.std.specs.Prelude.{Bool, true, false, cond, List, [], ◌∷◌, map, ◌≡◌, ℕ, suc, ◌<◌, eqb, Ok, Err, Result, Some, None, Option}
 use Rattle.refusals.specs.declared.Refusal.{Refusal}
+use Rattle.senses.specs.declared.Sense.{Sense}
 use Rattle.refusals.specs.declared.Refusal.TheVariants.{BadLength, BadHost, BadRecord, CommandOut, NoSuchPage, HasNone, OwnWaiting, BadOpcode, BadField, IsStopped, Aborted}
-use Rattle.refusals.specs.declared.SenseDue.{SenseDue}
-use Rattle.refusals.specs.declared.SenseDue.TheVariants.{NoSense, WithSense}
-use Rattle.refusals.specs.declared.Answer.{Answer}
-use Rattle.refusals.specs.declared.Answer.TheVariants.{Done, Refused}
-use Rattle.refusals.specs.declared.Verdict.{Verdict}
-use Rattle.refusals.specs.declared.Verdict.TheVariants.{Clear, Given}
 
 -- "No."
 abbrev pub number_of : Refusal → ℕ
@@ -25,18 +20,18 @@ number_of IsStopped = 9
 number_of Aborted = 10
 
 -- "Sense": "none", or sense key, additional sense code and qualifier. Of document 02's: "11 to 16, 18 and 19 carry no sense".
-abbrev pub sense_of : Refusal → SenseDue
-sense_of BadLength = NoSense
-sense_of BadHost = NoSense
-sense_of BadRecord = NoSense
-sense_of CommandOut = NoSense
-sense_of NoSuchPage = NoSense
-sense_of HasNone = NoSense
-sense_of OwnWaiting = WithSense (record { key = 0x02; asc = 0x04; ascq = 0x07 })
-sense_of BadOpcode = WithSense (record { key = 0x05; asc = 0x20; ascq = 0x00 })
-sense_of BadField = WithSense (record { key = 0x05; asc = 0x24; ascq = 0x00 })
-sense_of IsStopped = WithSense (record { key = 0x02; asc = 0x04; ascq = 0x02 })
-sense_of Aborted = NoSense
+abbrev pub sense_of : Refusal → Option Sense
+sense_of BadLength = None
+sense_of BadHost = None
+sense_of BadRecord = None
+sense_of CommandOut = None
+sense_of NoSuchPage = None
+sense_of HasNone = None
+sense_of OwnWaiting = Some (record { key = 0x02; asc = 0x04; ascq = 0x07 })
+sense_of BadOpcode = Some (record { key = 0x05; asc = 0x20; ascq = 0x00 })
+sense_of BadField = Some (record { key = 0x05; asc = 0x24; ascq = 0x00 })
+sense_of IsStopped = Some (record { key = 0x02; asc = 0x04; ascq = 0x02 })
+sense_of Aborted = None
 
 -- ---- the order
 
@@ -75,25 +70,14 @@ abbrev pub applies_in : Refusal → List Row → Bool
 applies_in r [] = false
 applies_in r (row ∷ rows) = cond (is_same row.gives r) row.applies (applies_in r rows)
 
+-- A call is not refused, or it is, and why. It is also the answer of a call that tells no more than whether it was done.
+abbrev pub Verdict : Type 0
+Verdict = Result (Unit {0}) Refusal
+
 -- What the rows give, which stand in their order: the refusal of the first that applies.
 unfoldable pub lowest : List Row → Verdict
-lowest [] = Clear
-lowest (row ∷ rows) = cond row.applies (Given row.gives) (lowest rows)
-
--- A verdict, or the next one where it is clear.
-abbrev pub or_else : Verdict → Verdict → Verdict
-or_else Clear next = next
-or_else (Given r) next = Given r
-
--- Whether a number is given.
-abbrev pub is_given : Verdict → Bool
-is_given Clear = false
-is_given (Given r) = true
-
--- The answer of a call that tells no more than whether it was done.
-abbrev pub answer_of : Verdict → Answer
-answer_of Clear = Done
-answer_of (Given r) = Refused r
+lowest [] = Ok tt
+lowest (row ∷ rows) = cond row.applies (Err row.gives) (lowest rows)
 
 -- ---- "The lowest number that applies"
 

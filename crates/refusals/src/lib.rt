@@ -2,10 +2,9 @@
 // No unit is needed.
 #![tactic(auto)]
 
-ghost use Rattle.std.specs.Prelude.{[], ◌∷◌, ◌≡◌};
-ghost use Rattle.refusals.specs.Refusals.{number_of, sense_of, ◌gives◌, lowest, or_else, is_given, answer_of};
+ghost use Rattle.std.specs.Prelude.{[], ◌∷◌, ◌≡◌, Some};
+ghost use Rattle.refusals.specs.Refusals.{number_of, sense_of, ◌gives◌, lowest};
 ghost use Rattle.refusals.specs.Verdicts.{rows_of_host, rows_of_record, rows_of_epc, rows_of_medium, rows_of_sense, rows_of_page, rows_of_new_page, rows_of_reader, rows_of_cdb, rows_of_start_stop, rows_of_next, rows_of_answer};
-ghost use Rattle.refusals.specs.declared.SenseDue.TheVariants.{WithSense};
 
 use senses::Sense;
 
@@ -23,27 +22,6 @@ pub enum Refusal {
     BadField,
     IsStopped,
     Aborted,
-}
-
-// The sense that goes with an answer.
-#[derive(Clone, Copy)]
-pub enum SenseDue {
-    NoSense,
-    WithSense(Sense),
-}
-
-// Whether a call is refused.
-#[derive(Clone, Copy)]
-pub enum Verdict {
-    Clear,
-    Given(Refusal),
-}
-
-// The answer of a call that tells no more than whether it was done.
-#[derive(Clone, Copy)]
-pub enum Answer {
-    Done,
-    Refused(Refusal),
 }
 
 pub fn number(r: Refusal) -> u32
@@ -64,87 +42,53 @@ pub fn number(r: Refusal) -> u32
     }
 }
 
-fn with_sense(key: u8, asc: u8, ascq: u8) -> SenseDue
-    ensures { result ≡ WithSense (record { key = key; asc = asc; ascq = ascq }) }
+fn with_sense(key: u8, asc: u8, ascq: u8) -> Option<Sense>
+    ensures { result ≡ Some (record { key = key; asc = asc; ascq = ascq }) }
 {
-    SenseDue::WithSense(Sense { key, asc, ascq })
+    Some(Sense { key, asc, ascq })
 }
 
-pub fn sense_of(r: Refusal) -> SenseDue
+pub fn sense_of(r: Refusal) -> Option<Sense>
     ensures { result ≡ sense_of r }
 {
     match r {
-        Refusal::BadLength => SenseDue::NoSense,
-        Refusal::BadHost => SenseDue::NoSense,
-        Refusal::BadRecord => SenseDue::NoSense,
-        Refusal::CommandOut => SenseDue::NoSense,
-        Refusal::NoSuchPage => SenseDue::NoSense,
-        Refusal::HasNone => SenseDue::NoSense,
+        Refusal::BadLength => None,
+        Refusal::BadHost => None,
+        Refusal::BadRecord => None,
+        Refusal::CommandOut => None,
+        Refusal::NoSuchPage => None,
+        Refusal::HasNone => None,
         Refusal::OwnWaiting => with_sense(0x02, 0x04, 0x07),
         Refusal::BadOpcode => with_sense(0x05, 0x20, 0x00),
         Refusal::BadField => with_sense(0x05, 0x24, 0x00),
         Refusal::IsStopped => with_sense(0x02, 0x04, 0x02),
-        Refusal::Aborted => SenseDue::NoSense,
+        Refusal::Aborted => None,
     }
 }
 
 // One row of the table.
-fn given_if(applies: bool, r: Refusal) -> Verdict
+fn given_if(applies: bool, r: Refusal) -> Result<(), Refusal>
     ensures { result ≡ lowest ((applies gives r) ∷ []) }
 {
-    if applies {
-        Verdict::Given(r)
-    } else {
-        Verdict::Clear
-    }
-}
-
-// The rows that follow speak only where none before them applies.
-fn or_else(v: Verdict, next: Verdict) -> Verdict
-    ensures { result ≡ or_else v next }
-{
-    match v {
-        Verdict::Clear => next,
-        Verdict::Given(r) => Verdict::Given(r),
-    }
-}
-
-// Whether a number is given.
-pub fn is_given(v: Verdict) -> bool
-    ensures { result ≡ is_given v }
-{
-    match v {
-        Verdict::Clear => false,
-        Verdict::Given(_) => true,
-    }
-}
-
-// The answer of a call that tells no more than whether it was done.
-pub fn answer_of(v: Verdict) -> Answer
-    ensures { result ≡ answer_of v }
-{
-    match v {
-        Verdict::Clear => Answer::Done,
-        Verdict::Given(r) => Answer::Refused(r),
-    }
+    if applies { Err(r) } else { Ok(()) }
 }
 
 // Ticks, resets and manufacture: number 3.
-pub fn record_verdict(ok: bool) -> Verdict
+pub fn record_verdict(ok: bool) -> Result<(), Refusal>
     ensures { result ≡ lowest (rows_of_record ok) }
 {
     given_if(!ok, Refusal::BadRecord)
 }
 
-// Three rows in their order.
-fn first_of(a: bool, x: Refusal, b: bool, y: Refusal, c: bool, z: Refusal) -> Verdict
+// Three rows in their order: those that follow speak only where none before them applies.
+fn first_of(a: bool, x: Refusal, b: bool, y: Refusal, c: bool, z: Refusal) -> Result<(), Refusal>
     ensures { result ≡ lowest ((a gives x) ∷ (b gives y) ∷ (c gives z) ∷ []) }
 {
-    or_else(given_if(a, x), or_else(given_if(b, y), given_if(c, z)))
+    given_if(a, x).and(given_if(b, y)).and(given_if(c, z))
 }
 
 // Every call of a host but the answer: numbers 2, 3 and 4.
-fn host_verdict(host: u32, ok: bool, out: bool) -> Verdict
+fn host_verdict(host: u32, ok: bool, out: bool) -> Result<(), Refusal>
     ensures { result ≡ lowest (rows_of_host host ok out) }
 {
     first_of(
@@ -158,7 +102,7 @@ fn host_verdict(host: u32, ok: bool, out: bool) -> Verdict
 }
 
 // EPC: numbers 3, 4 and 10.
-pub fn epc_verdict(ok: bool, out: bool, aborted: bool) -> Verdict
+pub fn epc_verdict(ok: bool, out: bool, aborted: bool) -> Result<(), Refusal>
     ensures { result ≡ lowest (rows_of_epc ok out aborted) }
 {
     first_of(
@@ -172,37 +116,28 @@ pub fn epc_verdict(ok: bool, out: bool, aborted: bool) -> Verdict
 }
 
 // Read and write: numbers 2, 3, 4 and 9.
-pub fn medium_verdict(host: u32, ok: bool, out: bool, stopped: bool) -> Verdict
+pub fn medium_verdict(host: u32, ok: bool, out: bool, stopped: bool) -> Result<(), Refusal>
     ensures { result ≡ lowest (rows_of_medium host ok out stopped) }
 {
-    or_else(
-        host_verdict(host, ok, out),
-        given_if(stopped, Refusal::IsStopped),
-    )
+    host_verdict(host, ok, out).and(given_if(stopped, Refusal::IsStopped))
 }
 
 // REQUEST SENSE: numbers 1 to 4.
-pub fn sense_verdict(size: usize, host: u32, ok: bool, out: bool) -> Verdict
+pub fn sense_verdict(size: usize, host: u32, ok: bool, out: bool) -> Result<(), Refusal>
     ensures { result ≡ lowest (rows_of_sense size host ok out) }
 {
-    or_else(
-        given_if(size != 18, Refusal::BadLength),
-        host_verdict(host, ok, out),
-    )
+    given_if(size != 18, Refusal::BadLength).and(host_verdict(host, ok, out))
 }
 
 // The log page and page 1Ah, which are so many bytes: numbers 1 and 3.
-pub fn page_verdict(due: usize, size: usize, ok: bool) -> Verdict
+pub fn page_verdict(due: usize, size: usize, ok: bool) -> Result<(), Refusal>
     ensures { result ≡ lowest (rows_of_page due size ok) }
 {
-    or_else(
-        given_if(size != due, Refusal::BadLength),
-        record_verdict(ok),
-    )
+    given_if(size != due, Refusal::BadLength).and(record_verdict(ok))
 }
 
 // A new page, which is 512 bytes: numbers 1, 3 and 11.
-pub fn new_page_verdict(size: usize, ok: bool, lacking: bool) -> Verdict
+pub fn new_page_verdict(size: usize, ok: bool, lacking: bool) -> Result<(), Refusal>
     ensures { result ≡ lowest (rows_of_new_page size ok lacking) }
 {
     first_of(
@@ -216,14 +151,14 @@ pub fn new_page_verdict(size: usize, ok: bool, lacking: bool) -> Verdict
 }
 
 // A page that another maker wrote: number 1.
-pub fn reader_verdict(size: usize) -> Verdict
+pub fn reader_verdict(size: usize) -> Result<(), Refusal>
     ensures { result ≡ lowest (rows_of_reader size) }
 {
     given_if(size != 512, Refusal::BadLength)
 }
 
 // A CDB: numbers 6, 7 and 8.
-fn cdb_verdict(own: bool, opcode: u8, listed: bool) -> Verdict
+fn cdb_verdict(own: bool, opcode: u8, listed: bool) -> Result<(), Refusal>
     ensures { result ≡ lowest (rows_of_cdb own opcode listed) }
 {
     first_of(
@@ -245,28 +180,22 @@ pub fn start_stop_verdict(
     own: bool,
     opcode: u8,
     listed: bool,
-) -> Verdict
+) -> Result<(), Refusal>
     ensures { result ≡ lowest (rows_of_start_stop size host ok out own opcode listed) }
 {
-    let before = or_else(
-        given_if(size != 6, Refusal::BadLength),
-        host_verdict(host, ok, out),
-    );
-    or_else(before, cdb_verdict(own, opcode, listed))
+    let before = given_if(size != 6, Refusal::BadLength).and(host_verdict(host, ok, out));
+    before.and(cdb_verdict(own, opcode, listed))
 }
 
 // The next command: numbers 2, 3, 4 and 5.
-pub fn next_verdict(host: u32, ok: bool, out: bool, waiting: bool) -> Verdict
+pub fn next_verdict(host: u32, ok: bool, out: bool, waiting: bool) -> Result<(), Refusal>
     ensures { result ≡ lowest (rows_of_next host ok out waiting) }
 {
-    or_else(
-        host_verdict(host, ok, out),
-        given_if(!waiting, Refusal::HasNone),
-    )
+    host_verdict(host, ok, out).and(given_if(!waiting, Refusal::HasNone))
 }
 
 // The answer: numbers 2, 3 and 5.
-pub fn answer_verdict(host: u32, ok: bool, own: bool) -> Verdict
+pub fn answer_verdict(host: u32, ok: bool, own: bool) -> Result<(), Refusal>
     ensures { result ≡ lowest (rows_of_answer host ok own) }
 {
     first_of(

@@ -7,7 +7,7 @@ ghost use Rattle.registers.specs.Commands.{ata_command, named, count_code};
 use conditions::Condition;
 
 // The registers of one ATA command. LBA comes as 32 bits.
-#[derive(Clone, Copy)]
+#[derive(Clone, Copy, PartialEq, Eq)]
 pub struct Registers {
     pub command: u8,
     pub feature: u8,
@@ -16,7 +16,7 @@ pub struct Registers {
 }
 
 // What Count names.
-#[derive(Clone, Copy)]
+#[derive(Clone, Copy, PartialEq, Eq)]
 pub enum Named {
     One(Condition),
     Every,

@@ -1,5 +1,6 @@
 -- Lines that `show` prints are read back as the parts that they were printed from, lines of request (vi) as what they ask for, and near misses are
 -- bad lines: each is computed.
+use Rattle.std.proofs.Common.{Some, None}
 use mathlib.Core.Path.{◌≡◌, refl}
 use mathlib.Core.Bool.{Bool, true, false}
 use mathlib.Core.List.{List, [], ◌∷◌, map}
@@ -14,8 +15,6 @@ use Rattle.drive.specs.declared.Edition.TheVariants.{Draft, Published}
 use Rattle.drive.specs.declared.Record.{Record}
 use Rattle.drive.specs.declared.Setting.{Setting}
 use Rattle.requests.specs.declared.Failure.TheVariants.{CommandSequence, NotReady}
-use Rattle.unit.specs.declared.Held.TheVariants.{Nothing, Holds}
-use Rattle.unit.specs.declared.Out.TheVariants.{NoneOut, OutFor}
 use Rattle.unit.specs.declared.Slot.TheVariants.{Empty, Waiting}
 use Rattle.requests.specs.declared.Stage.{Stage}
 use Rattle.requests.specs.declared.Stage.TheVariants.{Straight, Flushing}
@@ -76,11 +75,11 @@ samples =
     ∷ waits 1 Start false Straight
     ∷ waits 2 Stop true (Flushing 0)
     ∷ waits 3 (GoTo StandbyZ) true (Flushing 0xFF)
-    ∷ HasHeld 0 Nothing
-    ∷ HasHeld 2 (Holds NotReady)
-    ∷ HasHeld 3 (Holds CommandSequence)
-    ∷ HasOut NoneOut
-    ∷ HasOut (OutFor 0xFF)
+    ∷ HasHeld 0 None
+    ∷ HasHeld 2 (Some NotReady)
+    ∷ HasHeld 3 (Some CommandSequence)
+    ∷ HasOut None
+    ∷ HasOut (Some 0xFF)
     ∷ HasCounts (record {
       active = entries 0 1;
       a = entries 2 0x10;

@@ -1,5 +1,6 @@
 -- No answer has more than 4,096 bytes. A line is cut at 128 of them: `show` has 19 lines and the table 24. The bytes that `sense`, `log`, `trans`
 -- and `page` print are at most 1,024, with two digits each, between two texts that are cut too. `faults` prints at most 64 entries, of at most 18.
+use Rattle.std.proofs.Common.{Ok, Err, Some, None, Option, Result}
 use mathlib.Core.Path.{◌≡◌, refl}
 use mathlib.Core.Bool.{Bool, true, false, cond, not}
 use mathlib.Core.List.{List, [], ◌∷◌, ◌++◌, map}
@@ -21,14 +22,8 @@ use Rattle.readouts.specs.Readouts.{Filled, filled, told_bytes, sense_effect, se
 use Rattle.refusals.specs.Refusals.{◌gives◌, lowest}
 use Rattle.refusals.specs.declared.Refusal.TheVariants.{BadLength, BadRecord}
 use Rattle.unit.specs.Units.{held_of, largest_of, well_formed}
-use Rattle.unit.specs.declared.Held.{Held}
-use Rattle.unit.specs.declared.Held.TheVariants.{Nothing, Holds}
-use Rattle.refusals.specs.declared.Answer.{Answer}
-use Rattle.refusals.specs.declared.Answer.TheVariants.{Done, Refused}
 use Rattle.outcomes.specs.declared.Called.{Called}
 use Rattle.unit.specs.declared.Unit.{Unit}
-use Rattle.refusals.specs.declared.Verdict.{Verdict}
-use Rattle.refusals.specs.declared.Verdict.TheVariants.{Clear, Given}
 use Rattle.bridge.specs.Bridge.{start_stop_outcome}
 use Rattle.exchange.specs.Exchange.{next_outcome, answer_outcome}
 use Rattle.words.specs.Codes.{codes}
@@ -57,12 +52,15 @@ use Rattle.phrases.specs.Phrases.{refused_text, called_text, accepted_text, sent
 use Rattle.conditions.specs.declared.Condition.{Condition}
 use Rattle.faults.specs.declared.Fault.{Fault}
 use Rattle.faults.specs.declared.Faults.{Faults}
+use Rattle.refusals.specs.declared.Refusal.{Refusal}
 use Rattle.reader.specs.PageCalls.{faults_outcome, record_outcome}
 use Rattle.pairs.specs.Pairs.{page_of}
 use Rattle.findings.specs.Findings.{entry_text, entries_of, listed_pieces, checked_pieces, faults_pieces, found_text, record_pieces}
 use Rattle.findings.proofs.Entries.{total_within, entry_within}
 use Rattle.replies.specs.Lines.{is_end, silent, ok_or_error, says_ok, make_replied, ended_block, in_block, outside, response}
 use Rattle.answers.specs.Answers.{called_response, plain_outcome, unfilled, filled_pieces, filled_response, call_response, planned_outcome, made_response}
+use Rattle.refusals.specs.Refusals.{Verdict}
+use Rattle.requests.specs.declared.Failure.{Failure}
 
 -- ---- lines
 
@@ -101,15 +99,15 @@ lent_within len = rw (length-replicate {A = ℕ} (buffer_length len) 0xA5) (on (
     on true e = omega (arith, ltb-true len 0x400 e)
     on false e = omega arith
 
-filled_within : (u effect : Unit) (bytes buffer : List ℕ) (v : Verdict) → (v ≡ Clear → length bytes ≤ 0x400) → length buffer ≤ 0x400
+filled_within : (u effect : Unit) (bytes buffer : List ℕ) (v : Verdict) → (v ≡ Ok tt → length bytes ≤ 0x400) → length buffer ≤ 0x400
     → length (filled u effect bytes buffer v).buffer ≤ 0x400
-filled_within u effect bytes buffer Clear h k = h refl
-filled_within u effect bytes buffer (Given r) h k = k
+filled_within u effect bytes buffer (Ok _) h k = h refl
+filled_within u effect bytes buffer (Err r) h k = k
 
-told_within : (u : Unit) (h : Held) → length (told_bytes u.drive.power h) ≤ 0x400
+told_within : (u : Unit) (h : Option Failure) → length (told_bytes u.drive.power h) ≤ 0x400
 unfolding sense_bytes
-told_within u Nothing = omega arith
-told_within u (Holds f) = omega arith
+told_within u None = omega arith
+told_within u (Some f) = omega arith
 
 sense_within : (u : Unit) (host : ℕ) (buffer : List ℕ) → length buffer ≤ 0x400 → length (sense_outcome u host buffer).buffer ≤ 0x400
 unfolding sense_outcome
@@ -122,13 +120,13 @@ five_records : (u : Unit) → well_formed u ≡ true → length u.drive.records 
 unfolding well_formed
 five_records u e = drive_five (largest_of u) u.drive (and_left _ _ (and_left _ _ e))
 
-rows_clear : (ok long : Bool) → lowest ((long gives BadLength) ∷ (not ok gives BadRecord) ∷ []) ≡ Clear → ok ≡ true
+rows_clear : (ok long : Bool) → lowest ((long gives BadLength) ∷ (not ok gives BadRecord) ∷ []) ≡ Ok tt → ok ≡ true
 unfolding lowest
 rows_clear true long e = refl
 rows_clear false true e = let z : ◌≡◌ {A = ℕ} 0 1 = cc in absurd (omega arith)
 rows_clear false false e = let z : ◌≡◌ {A = ℕ} 0 1 = cc in absurd (omega arith)
 
-log_clear : (u : Unit) (buffer : List ℕ) → lowest (log_rows u buffer) ≡ Clear → well_formed u ≡ true
+log_clear : (u : Unit) (buffer : List ℕ) → lowest (log_rows u buffer) ≡ Ok tt → well_formed u ≡ true
 unfolding lowest
 log_clear u buffer e = rows_clear (well_formed u) (not (eqb (length buffer) 512)) e
 
@@ -137,7 +135,7 @@ unfolding log_outcome
 log_within u buffer h =
     let page = log_bytes u.drive.records in
     let given = lowest (log_rows u buffer) in
-    let five : given ≡ Clear → length u.drive.records ≡ 5 = λ e. five_records u (log_clear u buffer e) in
+    let five : given ≡ Ok tt → length u.drive.records ≡ 5 = λ e. five_records u (log_clear u buffer e) in
     filled_within u u page buffer given (λ e. omega (arith, page_512 u.drive.records (five e))) h
 
 transitions_within : (u : Unit) (buffer : List ℕ) → length buffer ≤ 0x400 → length (transitions_outcome u buffer).buffer ≤ 0x400
@@ -156,7 +154,7 @@ bytes_within : (bs : List ℕ) → length bs ≤ 0x400 → length (bytes_text bs
 bytes_within [] h = omega arith
 bytes_within (b ∷ bs) h = omega (arith, pairs_length (b ∷ bs))
 
-filled_fits : (a : Answer) (bs : List ℕ) → length bs ≤ 0x400 → Fits (filled_pieces a bs)
+filled_fits : (a : Verdict) (bs : List ℕ) → length bs ≤ 0x400 → Fits (filled_pieces a bs)
 filled_fits a bs h =
     let last = line_text [] ∷ [] in
     rw (length-append (cut (before_bytes a)) (joined (bytes_text bs ∷ last)), length-append (bytes_text bs) (joined last))
@@ -175,13 +173,13 @@ listed_fits f =
     let rest = entries_small (entries_of f) last in
     rw length-append (omega (arith, (total_within f.total).bound, line_more [] [] (omega arith)))
 
-checked_fits : (a : Answer) (f : Faults) → Fits (checked_pieces a f)
-checked_fits Done f = listed_fits f
-checked_fits (Refused r) f = line_fits (refused_text r)
+checked_fits : (checked : Result Faults Refusal) → Fits (checked_pieces checked)
+checked_fits (Ok f) = listed_fits f
+checked_fits (Err r) = line_fits (refused_text r)
 
 faults_fits : (len : ℕ) (text : List ℕ) → Fits (faults_pieces len text)
 unfolding faults_pieces
-faults_fits len text = let found = faults_outcome (page_of 2 len text) in checked_fits found.answer found.faults
+faults_fits len text = checked_fits (faults_outcome (page_of 2 len text))
 
 record_fits : (c : Condition) (len : ℕ) (text : List ℕ) → Fits (record_pieces c len text)
 unfolding record_pieces

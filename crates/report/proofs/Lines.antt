@@ -6,8 +6,8 @@ use Rattle.digits.specs.declared.Sheet.{Sheet}
 use Rattle.digits.specs.Sheets.{wrote_all, line_text}
 use Rattle.digits.proofs.Sheets.{Adds, wrote_then}
 use Rattle.reader.specs.PageCalls.{faults_outcome}
-use Rattle.reader.specs.declared.Checked.{Checked}
-use Rattle.refusals.specs.declared.Answer.TheVariants.{Done, Refused}
+use Rattle.std.proofs.Common.{Result}
+use Rattle.faults.specs.declared.Faults.{Faults}
 use Rattle.refusals.specs.declared.Refusal.{Refusal}
 use Rattle.report.specs.Report.{not_read_text, texts_by, report_texts, report_lines}
 
@@ -17,12 +17,7 @@ pub all_written : {N : ℕ} {headed rowed listed end : Sheet N} (s : Sheet N) (h
 unfolding wrote_all
 all_written s head rows faults total e f g h = h ∙ rw (g, f, e) (simp (map-append, wrote_then))
 
-pub of_read : (page : List ℕ) (checked : Checked) → checked ≡ faults_outcome page → checked.answer ≡ Done
-    → map line_text (texts_by page checked.faults Done) ≡ report_lines page
+pub of_checked : (page : List ℕ) (checked found : Result Faults Refusal) → checked ≡ faults_outcome page → checked ≡ found
+    → map line_text (texts_by page found) ≡ report_lines page
 unfolding report_lines report_texts
-of_read page checked e done = rw (← e, done)
-
-pub of_refused : (page : List ℕ) (checked : Checked) (r : Refusal) → checked ≡ faults_outcome page → checked.answer ≡ Refused r
-    → line_text (not_read_text r) ∷ [] ≡ report_lines page
-unfolding report_lines report_texts
-of_refused page checked r e refused = rw (← e, refused)
+of_checked page checked found e is = rw (← e, is)

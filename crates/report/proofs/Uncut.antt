@@ -1,4 +1,5 @@
 -- No line of a report is cut: each piece of it has a bound, whatever its number, and the bounds of a line's pieces add up to less than a text's room.
+use Rattle.std.proofs.Common.{Ok, Err, Result}
 use mathlib.Core.Path.{◌≡◌}
 use mathlib.Core.List.{List, [], ◌∷◌, ◌++◌, map}
 use Prim.Native.Nat.{ℕ, ◌/◌, ◌%◌, min}
@@ -13,24 +14,22 @@ use Rattle.faults.specs.declared.FaultKind.{FaultKind}
 use Rattle.faults.specs.declared.FaultKind.TheVariants.{ReservedWord, ReservedBits, SetUnsupported, NoTimer, SavedOff}
 use Rattle.faults.specs.declared.Faults.{Faults}
 use Rattle.reader.specs.PageCalls.{record_outcome, faults_outcome}
-use Rattle.reader.specs.declared.PageRecord.{PageRecord}
-use Rattle.reader.specs.declared.PageRecord.TheVariants.{Found, NotRead}
 use Rattle.refusals.specs.Refusals.{number_of}
-use Rattle.refusals.specs.declared.Answer.{Answer}
-use Rattle.refusals.specs.declared.Answer.TheVariants.{Done, Refused}
 use Rattle.refusals.specs.declared.Refusal.{Refusal}
 use Rattle.words.specs.Codes.{codes}
 use Rattle.digits.proofs.Lengths.{Within, whole, looser, ◌then◌, either, hex, decimal, at_left, ended, Uncut, none, ◌and◌}
 use Rattle.table.proofs.Rows.{name}
 use Rattle.table.proofs.Uncut.{settings, recovery}
 use Rattle.report.specs.Report.{not_read_text, page_head, page_row, owner_text, kind_text, fault_text, many_text, total_text, texts_by, report_texts, report_lines}
+use Rattle.refusals.specs.Refusals.{Verdict}
+use Rattle.drive.specs.declared.Record.{Record}
 
 not_read : (r : Refusal) → Within (not_read_text r) 127
 not_read r = looser (omega arith) (whole (codes "refused ") then decimal (number_of r) then whole (codes ": the page is not 512 bytes"))
 
-row : (c : Condition) (found : PageRecord) → Within (page_row c found) 127
-row c (Found r) = looser (omega arith) (at_left (name c) then settings r then recovery r)
-row c (NotRead r) = not_read r
+row : (c : Condition) (found : Result Record Refusal) → Within (page_row c found) 127
+row c (Ok r) = looser (omega arith) (at_left (name c) then settings r then recovery r)
+row c (Err r) = not_read r
 
 owner : (w : ℕ) → Within (owner_text w) 21
 owner w =
@@ -65,12 +64,12 @@ mapped : {A : Type 0} {f : A → List ℕ} {ls : List (List ℕ)} (l : List A) �
 mapped [] w ls = ls
 mapped (x ∷ l) w ls = w x and mapped l w ls
 
-texts : (page : List ℕ) (f : Faults) (a : Answer) → Uncut (texts_by page f a)
-texts page f Done =
+texts : (page : List ℕ) (checked : Result Faults Refusal) → Uncut (texts_by page checked)
+texts page (Ok f) =
     looser (omega arith) (whole page_head)
     and mapped falling (λ c. row c (record_outcome page c)) (mapped (take (min f.total 64) f.listed) fault (total f.total and none))
-texts page f (Refused r) = not_read r and none
+texts page (Err r) = not_read r and none
 
 pub uncut : (page : List ℕ) → report_lines page ≡ map ended (report_texts page)
 unfolding report_lines report_texts
-uncut page = (texts page (faults_outcome page).faults (faults_outcome page).answer).lines
+uncut page = (texts page (faults_outcome page)).lines

@@ -1,11 +1,9 @@
 -- What the test bench prints of another maker's log page (document 02, request (v)): the settings as replay's `table` has them, the faults in words, and
 -- how many there are. Assumes nothing.
-use Rattle.std.specs.Prelude.{cond, List, [], ◌∷◌, ◌++◌, map, ◌≡◌, ℕ, ◌/◌, ◌%◌, ◌≤◌, min, eqb, ltb, length, take}
+use Rattle.std.specs.Prelude.{cond, List, [], ◌∷◌, ◌++◌, map, ◌≡◌, ℕ, ◌/◌, ◌%◌, ◌≤◌, min, eqb, ltb, length, take, Ok, Err, Result}
 use Rattle.conditions.specs.Conditions.{falling}
 use Rattle.conditions.specs.declared.Condition.{Condition}
 use Rattle.refusals.specs.Refusals.{number_of}
-use Rattle.refusals.specs.declared.Answer.{Answer}
-use Rattle.refusals.specs.declared.Answer.TheVariants.{Done, Refused}
 use Rattle.refusals.specs.declared.Refusal.{Refusal}
 use Rattle.faults.specs.Tests.{owner_of}
 use Rattle.faults.specs.declared.Fault.{Fault}
@@ -13,12 +11,12 @@ use Rattle.faults.specs.declared.FaultKind.{FaultKind}
 use Rattle.faults.specs.declared.FaultKind.TheVariants.{ReservedWord, ReservedBits, SetUnsupported, NoTimer, SavedOff}
 use Rattle.faults.specs.declared.Faults.{Faults}
 use Rattle.reader.specs.PageCalls.{record_outcome, faults_outcome}
-use Rattle.reader.specs.declared.PageRecord.{PageRecord}
-use Rattle.reader.specs.declared.PageRecord.TheVariants.{Found, NotRead}
 use Rattle.words.specs.Codes.{codes}
 use Rattle.digits.specs.Numerals.{hex_text, decimal_text, padded}
 use Rattle.digits.specs.Sheets.{joined, line_text}
 use Rattle.table.specs.Rows.{name_text, record_text, recovery_text}
+use Rattle.refusals.specs.Refusals.{Verdict}
+use Rattle.drive.specs.declared.Record.{Record}
 
 -- "Refusals: number 1 for a page not 512 bytes": the reader gives no other number.
 abbrev pub not_read_text : Refusal → List ℕ
@@ -30,9 +28,9 @@ not_read_text r = codes "refused " ++ decimal_text (number_of r) ++ codes ": the
 abbrev pub page_head : List ℕ
 page_head = codes "condition supp save chng       default s         saved s       current s  recovery ms"
 
-abbrev pub page_row : Condition → PageRecord → List ℕ
-page_row c (Found r) = padded 9 (name_text c) ++ record_text r ++ recovery_text r
-page_row c (NotRead r) = not_read_text r
+abbrev pub page_row : Condition → Result Record Refusal → List ℕ
+page_row c (Ok r) = padded 9 (name_text c) ++ record_text r ++ recovery_text r
+page_row c (Err r) = not_read_text r
 
 abbrev pub row_of : List ℕ → Condition → List ℕ
 row_of page c = page_row c (record_outcome page c)
@@ -74,12 +72,12 @@ total_text n = cond (eqb n 0) (codes "no fault") (cond (eqb n 1) (codes "1 fault
 
 -- ---- the whole
 
-abbrev pub texts_by : List ℕ → Faults → Answer → List (List ℕ)
-texts_by page f Done = page_head ∷ row_texts page ++ fault_texts f ++ total_text f.total ∷ []
-texts_by page f (Refused r) = not_read_text r ∷ []
+abbrev pub texts_by : List ℕ → Result Faults Refusal → List (List ℕ)
+texts_by page (Ok f) = page_head ∷ row_texts page ++ fault_texts f ++ total_text f.total ∷ []
+texts_by page (Err r) = not_read_text r ∷ []
 
 unfoldable pub report_texts : List ℕ → List (List ℕ)
-report_texts page = let checked = faults_outcome page in texts_by page checked.faults checked.answer
+report_texts page = texts_by page (faults_outcome page)
 
 unfoldable pub report_lines : List ℕ → List (List ℕ)
 report_lines page = map line_text (report_texts page)

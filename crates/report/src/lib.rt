@@ -1,20 +1,17 @@
 // The report of another maker's log page, for the test bench: its settings as replay's `table` prints them, its faults in words, and how many.
 #![tactic(auto, using(digits::proofs::Digits::one_by_one))]
 
-ghost use Rattle.std.specs.Prelude.{◌++◌, map, ◌≡◌, ◌<◌};
+ghost use Rattle.std.specs.Prelude.{◌++◌, map, ◌≡◌, ◌<◌, Ok};
 ghost use Rattle.conditions.specs.Conditions.{condition_at};
 ghost use Rattle.digits.specs.Sheets.{wrote_all, line_text};
 ghost use Rattle.digits.specs.Texts.{said, cut};
-ghost use Rattle.reader.specs.declared.PageRecord.TheVariants.{Found};
-ghost use Rattle.refusals.specs.declared.Answer.TheVariants.{Done};
 ghost use Rattle.report.specs.Report.{not_read_text, page_row, row_of, place_text, owner_text, kind_text, fault_text, many_text, total_text, texts_by, report_lines, Reported};
 
 use conditions::Condition;
 use digits::{Sheet, Text};
 use drive::Record;
 use faults::{Fault, FaultKind, Faults};
-use reader::PageRecord;
-use refusals::{Answer, Refusal};
+use refusals::Refusal;
 
 fn not_read(r: Refusal) -> Text
     ensures { said result ≡ cut (not_read_text r) }
@@ -26,18 +23,18 @@ fn not_read(r: Refusal) -> Text
 // ---- the settings
 
 fn settings_row(c: Condition, r: Record) -> Text
-    ensures { said result ≡ cut (page_row c (Found r)) }
+    ensures { said result ≡ cut (page_row c (Ok r)) }
 {
     let name = Text::of(table::name_of(c)).pad_to(9);
     table::put_recovery(table::put_record(name, r), r)
 }
 
-fn page_row(c: Condition, found: PageRecord) -> Text
+fn page_row(c: Condition, found: Result<Record, Refusal>) -> Text
     ensures { said result ≡ cut (page_row c found) }
 {
     match found {
-        PageRecord::Found(r) => settings_row(c, r),
-        PageRecord::NotRead(r) => not_read(r),
+        Ok(r) => settings_row(c, r),
+        Err(r) => not_read(r),
     }
 }
 
@@ -115,7 +112,7 @@ fn total_line(n: u32) -> Text
 // The report of a page that is read.
 #[tactic(auto, unfolding(digits::specs::Sheets::wrote_all))]
 fn put_found<const N: usize>(page: &[u8], f: Faults, out: &mut Sheet<N>)
-    ensures { out.new ≡ wrote_all out.old (map line_text (texts_by page.now f Done)) }
+    ensures { out.new ≡ wrote_all out.old (map line_text (texts_by page.now (Ok f))) }
 {
     out.put_line(Text::of(
         b"condition supp save chng       default s         saved s       current s  recovery ms",
@@ -133,10 +130,9 @@ fn put_found<const N: usize>(page: &[u8], f: Faults, out: &mut Sheet<N>)
 fn put_lines<const N: usize>(page: &[u8], out: &mut Sheet<N>)
     ensures { out.new ≡ wrote_all out.old (report_lines page.now) }
 {
-    let checked = reader::page_faults(page);
-    match checked.answer {
-        Answer::Done => put_found(page, checked.faults, out),
-        Answer::Refused(r) => out.put_line(not_read(r)),
+    match reader::page_faults(page) {
+        Ok(faults) => put_found(page, faults, out),
+        Err(r) => out.put_line(not_read(r)),
     }
 }
 

@@ -9,7 +9,7 @@ use drive::Record;
 use senses::Sense;
 
 // What an operation is to do.
-#[derive(Clone, Copy)]
+#[derive(Clone, Copy, PartialEq, Eq)]
 pub enum Target {
     Stop,
     Start,
@@ -17,14 +17,14 @@ pub enum Target {
 }
 
 // How far it is: it sends no flush, or that many of its flushes have been answered (held at 255).
-#[derive(Clone, Copy)]
+#[derive(Clone, Copy, PartialEq, Eq)]
 pub enum Stage {
     Straight,
     Flushing(u8),
 }
 
 // An accepted START STOP UNIT.
-#[derive(Clone, Copy)]
+#[derive(Clone, Copy, PartialEq, Eq)]
 pub struct Request {
     pub target: Target,
     pub immed: bool,
@@ -32,14 +32,14 @@ pub struct Request {
 }
 
 // The drive's answer to a command.
-#[derive(Clone, Copy)]
+#[derive(Clone, Copy, PartialEq, Eq)]
 pub enum Reply {
     Good,
     Bad,
 }
 
 // Why an operation failed.
-#[derive(Clone, Copy)]
+#[derive(Clone, Copy, PartialEq, Eq)]
 pub enum Failure {
     CommandSequence,
     NotReady,

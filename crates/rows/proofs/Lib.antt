@@ -1,9 +1,8 @@
+pub mod Chains
 pub mod Choices
 pub mod Copied
-pub mod Folds
 pub mod Last
 pub mod Mapped
 pub mod Places
 pub mod Some
 pub mod Values
-pub mod Written

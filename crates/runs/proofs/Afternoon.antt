@@ -1,5 +1,6 @@
 -- One afternoon of four hosts: a run that demand 3 speaks of, with what each call says, its serial run, and what both leave. All of it is computed:
 -- each equation is checked by running its two sides.
+use Rattle.std.proofs.Common.{Ok, Err, Some, None}
 use mathlib.Core.Bool.{true, false, cond}
 use mathlib.Core.Path.{◌≡◌, refl}
 use mathlib.Core.List.{List, [], ◌∷◌, map}
@@ -8,17 +9,13 @@ use lib.ListN.{take, replicate}
 use Rattle.conditions.specs.declared.Condition.TheVariants.{StandbyY, IdleA}
 use Rattle.conditions.specs.declared.Cause.TheVariants.{Command, Timer}
 use Rattle.conditions.specs.declared.Power.TheVariants.{Low, Active}
-use Rattle.unit.specs.Units.{none_held, well_formed}
+use Rattle.unit.specs.Units.{well_formed}
 use Rattle.requests.specs.Requests.{failure_sense}
 use Rattle.refusals.specs.declared.Refusal.TheVariants.{CommandOut, OwnWaiting, IsStopped, Aborted}
-use Rattle.refusals.specs.declared.Answer.TheVariants.{Done, Refused}
 use Rattle.requests.specs.declared.Failure.TheVariants.{CommandSequence}
-use Rattle.unit.specs.declared.Held.TheVariants.{Holds}
-use Rattle.refusals.specs.declared.SenseDue.TheVariants.{NoSense, WithSense}
 use Rattle.unit.specs.declared.Unit.{Unit}
 use Rattle.registers.specs.Commands.{ata_command}
-use Rattle.operations.specs.declared.Acceptance.TheVariants.{GoodDue, Pending, NotAccepted}
-use Rattle.operations.specs.declared.Next.TheVariants.{Send}
+use Rattle.operations.specs.declared.Acceptance.TheVariants.{GoodDue, Pending}
 use Rattle.operations.specs.declared.Progress.TheVariants.{More, Ended}
 use Rattle.requests.specs.declared.Reply.TheVariants.{Good, Bad}
 use Rattle.operations.specs.declared.Status.TheVariants.{NoStatus, GoodStatus, CheckCondition}
@@ -61,53 +58,53 @@ to_idle_b = 0x1B ∷ 0x01 ∷ 0x00 ∷ 0x01 ∷ 0x20 ∷ 0x00 ∷ []
 abbrev afternoon : List Line
 afternoon =
     -- a reset with nothing waiting
-    power_on says plain Done
+    power_on says plain (Ok tt)
     -- host 1 writes: unsaved
-    ∷ write 1 says plain Done
+    ∷ write 1 says plain (Ok tt)
     -- hosts 0 and 1 each have an operation waiting; host 1 has its GOOD already
-    ∷ start_stop 0 stop says accepted Pending
-    ∷ start_stop 1 to_idle_b says accepted GoodDue
+    ∷ start_stop 0 stop says accepted (Ok Pending)
+    ∷ start_stop 1 to_idle_b says accepted (Ok GoodDue)
     -- number 6, for host 1's own: dropped
-    ∷ start_stop 1 stop says accepted (NotAccepted OwnWaiting)
+    ∷ start_stop 1 stop says accepted (Err OwnWaiting)
     -- host 0's flush is out
-    ∷ next 0 says sent (Send (ata_command 0xE7 0 0 0))
+    ∷ next 0 says sent (Ok (ata_command 0xE7 0 0 0))
     -- two ticks with a command out: they change nothing here, and stand in the serial run
-    ∷ tick says plain Done
-    ∷ tick says plain Done
+    ∷ tick says plain (Ok tt)
+    ∷ tick says plain (Ok tt)
     -- number 4: dropped
-    ∷ read 2 says plain (Refused CommandOut)
+    ∷ read 2 says plain (Err CommandOut)
     -- the flush is good: nothing is unsaved
-    ∷ answer 0 Good says progressed More
+    ∷ answer 0 Good says progressed (Ok More)
     -- host 3's stop begins too, and its first flush is good
-    ∷ start_stop 3 stop says accepted Pending
-    ∷ next 3 says sent (Send (ata_command 0xE7 0 0 0))
-    ∷ answer 3 Good says progressed More
+    ∷ start_stop 3 stop says accepted (Ok Pending)
+    ∷ next 3 says sent (Ok (ata_command 0xE7 0 0 0))
+    ∷ answer 3 Good says progressed (Ok More)
     -- a write between the flush and the stop
-    ∷ write 2 says plain Done
+    ∷ write 2 says plain (Ok tt)
     -- so another flush is sent; host 3's is bad, and with IMMED 0 that is told at once: in the serial run this answer stands, and not the good one
-    ∷ next 3 says sent (Send (ata_command 0xE7 0 0 0))
-    ∷ answer 3 Bad says progressed (Ended (record { status = CheckCondition; sense = WithSense (failure_sense CommandSequence); flushes = 2 }))
+    ∷ next 3 says sent (Ok (ata_command 0xE7 0 0 0))
+    ∷ answer 3 Bad says progressed (Ok (Ended (record { status = CheckCondition; sense = Some (failure_sense CommandSequence); flushes = 2 })))
     -- host 0 too is given another flush, and no E0h yet
-    ∷ next 0 says sent (Send (ata_command 0xE7 0 0 0))
-    ∷ answer 0 Good says progressed More
+    ∷ next 0 says sent (Ok (ata_command 0xE7 0 0 0))
+    ∷ answer 0 Good says progressed (Ok More)
     -- host 1's flush, between host 0's second flush and its stop, is bad: no status is due, the failure is held, one flush was answered. It began
     -- after host 0's operation and is over before it
-    ∷ next 1 says sent (Send (ata_command 0xE7 0 0 0))
-    ∷ answer 1 Bad says progressed (Ended (record { status = NoStatus; sense = WithSense (failure_sense CommandSequence); flushes = 1 }))
+    ∷ next 1 says sent (Ok (ata_command 0xE7 0 0 0))
+    ∷ answer 1 Bad says progressed (Ok (Ended (record { status = NoStatus; sense = Some (failure_sense CommandSequence); flushes = 1 })))
     -- two ticks with no command out: Idle_A by timer, while host 0's operation waits
-    ∷ tick says plain Done
-    ∷ tick says plain Done
+    ∷ tick says plain (Ok tt)
+    ∷ tick says plain (Ok tt)
     -- another setting: Idle_B on, 300
-    ∷ epc_call 0x82 0x012C22 says plain Done
+    ∷ epc_call 0x82 0x012C22 says plain (Ok tt)
     -- nothing was written since the second flush: the stop
-    ∷ next 0 says sent (Send (ata_command 0xE0 0 0 0))
-    ∷ answer 0 Good says progressed (Ended (record { status = GoodStatus; sense = NoSense; flushes = 2 }))
+    ∷ next 0 says sent (Ok (ata_command 0xE0 0 0 0))
+    ∷ answer 0 Good says progressed (Ok (Ended (record { status = GoodStatus; sense = None; flushes = 2 })))
     -- number 9: dropped, and nothing is unsaved by it
-    ∷ write 3 says plain (Refused IsStopped)
+    ∷ write 3 says plain (Err IsStopped)
     -- an aborted power subcommand between two ticks: it stays, for it sets the idle count to 0
-    ∷ tick says plain Done
-    ∷ epc_call 0xFF 0x1 says plain (Refused Aborted)
-    ∷ tick says plain Done
+    ∷ tick says plain (Ok tt)
+    ∷ epc_call 0xFF 0x1 says plain (Err Aborted)
+    ∷ tick says plain (Ok tt)
     ∷ []
 
 abbrev calls_made : List Call
@@ -155,7 +152,7 @@ evening = record {
   idle = record { 0 = 1 };
   stopped = true;
   unsaved = false;
-  held = none_held ∷ record { held = Holds CommandSequence } ∷ none_held ∷ none_held ∷ [];
+  held = None ∷ Some CommandSequence ∷ None ∷ None ∷ [];
 }
 
 -- ---- the run is computed

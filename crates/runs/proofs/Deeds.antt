@@ -1,5 +1,6 @@
 -- What a call comes to, and the record that it leaves: one of the cases below. Every fact over runs goes through here, by a table of these cases; the
 -- calls that are no part of an operation need one row of it together, but where each has to be looked at by itself.
+use Rattle.std.proofs.Common.{Ok, Err, Some, None}
 use mathlib.Core.Path.{◌≡◌, refl, sym, ap, ◌∙◌}
 use mathlib.Core.Bool.{Bool, true, false, cond, false≢true, true≢false}
 use mathlib.Core.List.{List}
@@ -14,31 +15,25 @@ use Rattle.epc.specs.Epc.{aborts}
 use Rattle.registers.specs.declared.Registers.{Registers}
 use Rattle.rows.proofs.Choices.{either}
 use Rattle.epc.proofs.Effects.{idle_after}
-use Rattle.unit.specs.Units.{empty_slot, slot_of, held_of, is_out, with_slot, rested}
+use Rattle.unit.specs.Units.{slot_of, held_of, is_out, with_slot, rested}
 use Rattle.refusals.specs.Refusals.{lowest, is_same}
 use Rattle.refusals.proofs.Ranks.{is_same_lem}
 use Rattle.engine.specs.Engine.{epc_rows, medium_rows, epc_effect, tick_effect, read_effect, write_effect, power_on_effect, hard_reset_effect}
 use Rattle.readouts.specs.Readouts.{sense_rows, log_rows, transitions_rows, new_page_rows, sense_effect}
 use Rattle.refusals.specs.declared.Refusal.{Refusal}
 use Rattle.refusals.specs.declared.Refusal.TheVariants.{CommandOut, Aborted}
-use Rattle.refusals.specs.declared.Verdict.{Verdict}
-use Rattle.refusals.specs.declared.Verdict.TheVariants.{Clear, Given}
 use Rattle.requests.specs.declared.Target.{Target}
 use Rattle.requests.specs.declared.Request.{Request}
 use Rattle.unit.specs.declared.Slot.TheVariants.{Waiting}
-use Rattle.unit.specs.declared.Held.TheVariants.{Nothing}
-use Rattle.unit.specs.declared.Out.TheVariants.{NoneOut}
 use Rattle.unit.specs.declared.Unit.{Unit}
 use Rattle.cdb.specs.Cdb.{wanted, request_for}
 use Rattle.operations.specs.Operations.{failure_of, registers_of, one_more, flushes_of, due_from, is_flush, report_good, report_failed}
 use Rattle.exchange.specs.Answered.{flushed_well, failed, succeeded, flush_answered, last_answered, answered_for}
 use Rattle.bridge.specs.Bridge.{start_stop_rows, start_stop_effect}
 use Rattle.exchange.specs.Exchange.{next_rows, next_effect, next_settled, next_outcome, answer_rows, answer_settled, answer_outcome}
-use Rattle.cdb.specs.declared.Wanted.TheVariants.{Wants}
 use Rattle.requests.specs.declared.Reply.{Reply}
 use Rattle.requests.specs.declared.Reply.TheVariants.{Good, Bad}
-use Rattle.operations.specs.declared.Next.TheVariants.{Send, NotSent}
-use Rattle.operations.specs.declared.Progress.TheVariants.{More, Ended, NotTaken}
+use Rattle.operations.specs.declared.Progress.TheVariants.{More, Ended}
 use Rattle.operations.specs.declared.Report.{Report}
 use Rattle.exchange.specs.declared.Replied.{Replied}
 use Rattle.calls.specs.Calls.{Call, set_features, tick, read, write, power_on, hard_reset, soft_reset, start_stop, next, answer, request_sense, log_page, transitions_page, new_page, Said, plain, accepted, sent, progressed, outcome, step}
@@ -48,21 +43,23 @@ use Rattle.unit.proofs.Hosts.{other_held}
 use Rattle.refusals.proofs.Lowest.{not_applies}
 use Rattle.calls.proofs.Numbers.{own_told, next_waiting, answer_waiting, refused_exactly, refusal_keeps, acceptance_does, start_wants, abort_rests, other_keeps}
 use Rattle.runs.specs.Deeds.{Deed, begins, hands_out, goes_on, ends, does, was_aborted, was_refused, if_hands_out, if_ends, does_a, beginning, sending, answering, another, deed_of}
+use Rattle.refusals.specs.Refusals.{Verdict}
+use Rattle.unit.specs.declared.Slot.TheVariants.{Empty}
 
 -- ---- the cases
 
 -- The drive's answer is taken: no row of its applies, and it goes to the host's waiting operation.
 pub record Taken (u : Unit) (host : ℕ) (q : Request) : Type 0 where
-  pub clear : lowest (answer_rows u host) ≡ Clear
+  pub clear : lowest (answer_rows u host) ≡ Ok tt
   pub waiting : slot_of u.slots host ≡ Waiting q
 
 -- A fact of the deed and of the record after it holds in every case of a call on the record u: refused, aborted, or a step of an operation,
 pub record Cases (P : Deed → Unit → Type 0) (u : Unit) : Type 0 where
   pub refused : (c : Call) → P (was_refused c) u
   pub aborted : (q : Registers) → aborts u.edition q u.drive.records ≡ true → P (was_aborted (set_features q)) (rested u)
-  pub begun : (host : ℕ) (cdb : List ℕ) (t : Target) → lowest (start_stop_rows u host cdb) ≡ Clear → wanted cdb ≡ Wants t
+  pub begun : (host : ℕ) (cdb : List ℕ) (t : Target) → lowest (start_stop_rows u host cdb) ≡ Ok tt → wanted cdb ≡ Some t
       → P (begins host cdb) (with_slot host (Waiting (request_for t cdb)) (rested u))
-  pub asked : (host : ℕ) (q : Request) → lowest (next_rows u host) ≡ Clear → slot_of u.slots host ≡ Waiting q
+  pub asked : (host : ℕ) (q : Request) → lowest (next_rows u host) ≡ Ok tt → slot_of u.slots host ≡ Waiting q
       → P (hands_out host (registers_of (due_from u.unsaved q))) (next_effect host u)
   pub flushed : (host : ℕ) (q : Request) → Taken u host q → is_flush (due_from u.unsaved q) ≡ true
       → P (goes_on host Good) (flushed_well u host q).unit
@@ -77,18 +74,18 @@ pub record Cases (P : Deed → Unit → Type 0) (u : Unit) : Type 0 where
 
 -- or another call, accepted: one row for each.
 pub record Others (P : Deed → Unit → Type 0) (u : Unit) : Type 0 where
-  pub epc : (q : Registers) → lowest (epc_rows u q) ≡ Clear → P (does (set_features q)) (epc_effect q u)
+  pub epc : (q : Registers) → lowest (epc_rows u q) ≡ Ok tt → P (does (set_features q)) (epc_effect q u)
   pub ticks : P (does tick) (tick_effect u)
-  pub reads : (host : ℕ) → lowest (medium_rows u host) ≡ Clear → P (does (read host)) (read_effect u)
-  pub writes : (host : ℕ) → lowest (medium_rows u host) ≡ Clear → P (does (write host)) (write_effect u)
+  pub reads : (host : ℕ) → lowest (medium_rows u host) ≡ Ok tt → P (does (read host)) (read_effect u)
+  pub writes : (host : ℕ) → lowest (medium_rows u host) ≡ Ok tt → P (does (write host)) (write_effect u)
   pub powers_on : P (does power_on) (power_on_effect u)
   pub resets_hard : P (does hard_reset) (hard_reset_effect u)
   pub resets_soft : P (does soft_reset) (hard_reset_effect u)
-  pub tells : (host : ℕ) (buffer : List ℕ) → lowest (sense_rows u host buffer) ≡ Clear
+  pub tells : (host : ℕ) (buffer : List ℕ) → lowest (sense_rows u host buffer) ≡ Ok tt
       → P (does (request_sense host buffer)) (sense_effect host u)
-  pub logs : (buffer : List ℕ) → lowest (log_rows u buffer) ≡ Clear → P (does (log_page buffer)) u
-  pub logs_transitions : (buffer : List ℕ) → lowest (transitions_rows u buffer) ≡ Clear → P (does (transitions_page buffer)) u
-  pub logs_new : (number : ℕ) (buffer : List ℕ) → lowest (new_page_rows u number buffer) ≡ Clear → P (does (new_page number buffer)) u
+  pub logs : (buffer : List ℕ) → lowest (log_rows u buffer) ≡ Ok tt → P (does (log_page buffer)) u
+  pub logs_transitions : (buffer : List ℕ) → lowest (transitions_rows u buffer) ≡ Ok tt → P (does (transitions_page buffer)) u
+  pub logs_new : (number : ℕ) (buffer : List ℕ) → lowest (new_page_rows u number buffer) ≡ Ok tt → P (does (new_page number buffer)) u
 
 -- The deed of a call on a record.
 abbrev pub deed_at : Unit → Call → Deed
@@ -126,39 +123,39 @@ never h = absurd (false≢true h)
 
 module _ (P : Deed → Unit → Type 0) (u : Unit) (cases : Cases P u) (others : Others P u) where
   -- number 10 or another one
-  refusing : (c : Call) (r : Refusal) → verdict_in (outcome u c).said ≡ Given r → (r ≡ Aborted → P (was_aborted c) (rested u))
+  refusing : (c : Call) (r : Refusal) → verdict_in (outcome u c).said ≡ Err r → (r ≡ Aborted → P (was_aborted c) (rested u))
       → (b : Bool) → is_same r Aborted ≡ b → P (cond b (was_aborted c) (was_refused c)) (step u c)
   refusing c r e tenth true same =
       let ten = is_same_lem r Aborted same in
-      rw (abort_rests u c (e ∙ ap Given ten)).1 (tenth ten)
+      rw (abort_rests u c (e ∙ ap Err ten)).1 (tenth ten)
   refusing c r e tenth false other = rw (refusal_keeps u c r e other) (cases.refused c)
 
   -- ---- the calls that are no part of an operation
 
-  other : (c : Call) → (lowest (own_rows u c) ≡ Clear → P (does c) (effect u c)) → (applies_to u c Aborted ≡ true → P (was_aborted c) (rested u))
+  other : (c : Call) → (lowest (own_rows u c) ≡ Ok tt → P (does c) (effect u c)) → (applies_to u c Aborted ≡ true → P (was_aborted c) (rested u))
       → P (another c (verdict_in (outcome u c).said)) (step u c)
   other c accepts tenth = on (verdict_in (outcome u c).said) refl
     where
       on : (v : Verdict) → verdict_in (outcome u c).said ≡ v → P (another c v) (step u c)
-      on Clear e = rw (acceptance_does u c e).0 (accepts (sym (own_told u c) ∙ e))
-      on (Given r) e =
-          refusing c r e (λ ten. tenth ((refused_exactly u c Aborted).0 (e ∙ ap Given ten)).itself) (is_same r Aborted) refl
+      on (Ok _) e = rw (acceptance_does u c e).0 (accepts (sym (own_told u c) ∙ e))
+      on (Err r) e =
+          refusing c r e (λ ten. tenth ((refused_exactly u c Aborted).0 (e ∙ ap Err ten)).itself) (is_same r Aborted) refl
 
   -- ---- START STOP UNIT
 
   starts_stops : (host : ℕ) (cdb : List ℕ) → P (beginning host cdb (verdict_in (outcome u (start_stop host cdb)).said)) (step u (start_stop host cdb))
   starts_stops host cdb = on (verdict_in (outcome u (start_stop host cdb)).said) refl
     where
-      begin : (t : Target) → wanted cdb ≡ Wants t → lowest (start_stop_rows u host cdb) ≡ Clear
+      begin : (t : Target) → wanted cdb ≡ Some t → lowest (start_stop_rows u host cdb) ≡ Ok tt
           → P (begins host cdb) (start_stop_effect host cdb (wanted cdb) u)
       begin t wants clear = rw wants (cases.begun host cdb t clear wants)
 
       on : (v : Verdict) → verdict_in (outcome u (start_stop host cdb)).said ≡ v → P (beginning host cdb v) (step u (start_stop host cdb))
-      on Clear e =
+      on (Ok _) e =
           let clear = sym (own_told u (start_stop host cdb)) ∙ e in
           let wants = start_wants u host cdb clear in
           rw (acceptance_does u (start_stop host cdb) e).0 (begin wants.0 wants.1 clear)
-      on (Given r) e = rw (other_keeps u (start_stop host cdb) r e refl) (cases.refused (start_stop host cdb))
+      on (Err r) e = rw (other_keeps u (start_stop host cdb) r e refl) (cases.refused (start_stop host cdb))
 
   -- ---- the next command
 
@@ -167,10 +164,10 @@ module _ (P : Deed → Unit → Type 0) (u : Unit) (cases : Cases P u) (others :
   asked host = on (lowest (next_rows u host)) refl
     where
       on : (v : Verdict) → lowest (next_rows u host) ≡ v → P (sending host (sent (next_settled u host v).answer)) (next_settled u host v).unit
-      on Clear e =
+      on (Ok _) e =
           let w = next_waiting u host e in
           rw w.1 (cases.asked host w.0 e w.1)
-      on (Given r) e = cases.refused (next host)
+      on (Err r) e = cases.refused (next host)
 
   -- ---- the answer
 
@@ -201,10 +198,10 @@ module _ (P : Deed → Unit → Type 0) (u : Unit) (cases : Cases P u) (others :
     answered = on (lowest (answer_rows u host)) refl
       where
         on : (v : Verdict) → lowest (answer_rows u host) ≡ v → Q (answer_settled u host reply v)
-        on Clear e =
+        on (Ok _) e =
             let w = answer_waiting u host e in
             rw w.1 (replied w.0 (record { clear = e; waiting = w.1 }))
-        on (Given r) e = cases.refused (answer host reply)
+        on (Err r) e = cases.refused (answer host reply)
 
   -- What holds in every case holds of the deed of every call and of the record that it leaves.
   pub by_deed : (c : Call) → P (deed_at u c) (step u c)
@@ -231,7 +228,7 @@ Is c resetting writing powering = (is_reset c ≡ resetting) × (is_write c ≡ 
 -- What such a call, accepted, leaves of the slots, of what is out and of the unsaved mark.
 pub data Leaves (u : Unit) (c : Call) (v : Unit) : Type 0 where
   -- a reset leaves nothing waiting and nothing out
-  sweeps : (power-on : Bool) → Is c true false power-on → v.slots ≡ replicate 4 empty_slot → v.out ≡ NoneOut
+  sweeps : (power-on : Bool) → Is c true false power-on → v.slots ≡ replicate 4 Empty → v.out ≡ None
       → v.unsaved ≡ cond power-on false u.unsaved → Leaves u c v
   -- a write comes while nothing is out
   marks : Is c false true false → is_out u.out ≡ false → v.slots ≡ u.slots → v.out ≡ u.out → v.unsaved ≡ true → Leaves u c v
@@ -274,7 +271,7 @@ module _ (P : Deed → Unit → Type 0) (u : Unit) (done : (c : Call) (v : Unit)
     resets_soft = row soft_reset _ (sweeps false (refl, refl, refl) refl refl refl) (λ k r. absurd (true≢false r)) (restarts refl refl);
     tells = λ host buffer clear.
         row (request_sense host buffer) _ (passes (refl, refl, refl) refl refl refl)
-        (λ k r other. other_held host k (λ same. eqb-false host k other (sym same)) u.held Nothing) (stays refl refl);
+        (λ k r other. other_held host k (λ same. eqb-false host k other (sym same)) u.held None) (stays refl refl);
     logs = λ buffer clear. row (log_page buffer) _ (passes (refl, refl, refl) refl refl refl) (λ k r s. refl) (stays refl refl);
     logs_transitions = λ buffer clear.
         row (transitions_page buffer) _ (passes (refl, refl, refl) refl refl refl) (λ k r s. refl) (stays refl refl);
@@ -332,28 +329,28 @@ when_ended E u endings host reply report e = rw e at (telling (λ host q. Prim.U
 -- ---- only a reset comes to the deed of a reset
 
 another_reset : (c : Call) (v : Verdict) → does_a is_reset (another c v) ≡ true → is_reset c ≡ true
-another_reset c Clear h = h
-another_reset c (Given r) h =
+another_reset c (Ok _) h = h
+another_reset c (Err r) h =
     absurd (true≢false (sym h ∙ either (λ (d : Deed). does_a is_reset d ≡ false) (is_same r Aborted) (was_aborted c) (was_refused c) refl refl))
 
 begins_no_reset : (host : ℕ) (cdb : List ℕ) (v : Verdict) → does_a is_reset (beginning host cdb v) ≡ false
-begins_no_reset host cdb Clear = refl
-begins_no_reset host cdb (Given r) = refl
+begins_no_reset host cdb (Ok _) = refl
+begins_no_reset host cdb (Err r) = refl
 
 sends_no_reset : (host : ℕ) (said : Said) → does_a is_reset (sending host said) ≡ false
 sends_no_reset host (plain a) = refl
 sends_no_reset host (accepted a) = refl
-sends_no_reset host (sent (Send q)) = refl
-sends_no_reset host (sent (NotSent r)) = refl
+sends_no_reset host (sent (Ok q)) = refl
+sends_no_reset host (sent (Err r)) = refl
 sends_no_reset host (progressed p) = refl
 
 answers_no_reset : (host : ℕ) (reply : Reply) (said : Said) → does_a is_reset (answering host reply said) ≡ false
 answers_no_reset host reply (plain a) = refl
 answers_no_reset host reply (accepted a) = refl
 answers_no_reset host reply (sent n) = refl
-answers_no_reset host reply (progressed More) = refl
-answers_no_reset host reply (progressed (Ended report)) = refl
-answers_no_reset host reply (progressed (NotTaken r)) = refl
+answers_no_reset host reply (progressed (Ok More)) = refl
+answers_no_reset host reply (progressed (Ok (Ended report))) = refl
+answers_no_reset host reply (progressed (Err r)) = refl
 
 pub reset_call_lem : (c : Call) (said : Said) → does_a is_reset (deed_of c said) ≡ true → is_reset c ≡ true
 reset_call_lem c said = on (turn c)

@@ -1,5 +1,6 @@
 -- Each cell counts the entries of its row and column: a call counts the entry that its record before and after show, in the column of its kind, so a run
 -- counts those of its history, one call after the other.
+use Rattle.std.proofs.Common.{Ok, Err}
 use mathlib.Core.Path.{◌≡◌, refl, sym, ap, ap₂, ◌∙◌}
 use mathlib.Core.Bool.{Bool, true, false, not, ◌&&◌, cond}
 use mathlib.Core.List.{List, [], ◌∷◌}
@@ -28,8 +29,6 @@ use Rattle.requests.specs.declared.Target.TheVariants.{Stop, Start, GoTo}
 use Rattle.operations.specs.Operations.{reached}
 use Rattle.refusals.specs.Refusals.{lowest}
 use Rattle.refusals.specs.Verdicts.{rows_of_record}
-use Rattle.refusals.specs.declared.Verdict.{Verdict}
-use Rattle.refusals.specs.declared.Verdict.TheVariants.{Clear, Given}
 use Rattle.unit.specs.Units.{well_formed, largest_of, made_unit, blank}
 use Rattle.unit.specs.declared.Unit.{Unit}
 use Rattle.outcomes.specs.Settled.{settled}
@@ -39,6 +38,7 @@ use Rattle.calls.specs.Calls.{Call, Event, outcome, step, run, history}
 use Rattle.calls.specs.Described.{is_tick}
 use Rattle.calls.proofs.Steps.{after_every}
 use Rattle.runs.specs.Entries.{is_change, column_of_call, is_entry, cell_entries, entries_into, changes_in, total, CountsTell, CountsGoOn, PageTells, TotalTells}
+use Rattle.refusals.specs.Refusals.{Verdict}
 
 -- ---- one call
 
@@ -115,8 +115,8 @@ new_counts ed ms row column h k = on (lowest (rows_of_record (well_formed (made_
     zeros = ap (λ (l : List ℕ). get_or l column 0) (value_in (λ i. replicate 2 0) 6 row [] [] h) ∙ value_in (λ j. 0) 2 column [] 0 k
 
     on : (v : Verdict) → cell row column (counts_handed (settled (blank ed) (made_unit ed ms) v).unit) ≡ 0
-    on Clear = zeros
-    on (Given r) = zeros
+    on (Ok _) = zeros
+    on (Err r) = zeros
 
 -- Each cell is the number of entries of its row and column, held at the top.
 pub counts_tell : CountsTell outcome

@@ -1,5 +1,6 @@
 -- An accepted START STOP UNIT has one fate. A host's slot tells it: while its operation waits, each call leaves it waiting, ends it or is a reset; once
 -- it is empty, the host has no end report until its next START STOP UNIT is accepted.
+use Rattle.std.proofs.Common.{Ok, Err, Some}
 use mathlib.Core.Path.{◌≡◌, refl, sym, ap, ◌∙◌}
 use mathlib.Core.Bool.{Bool, true, false, cond, false≢true, true≢false}
 use mathlib.Core.List.{List, [], ◌∷◌}
@@ -9,21 +10,18 @@ use lib.Dec.{eqb}
 use lib.ListN.{set}
 use borrow.Author.Tests.{eqb-true}
 use Rattle.rows.proofs.Choices.{either}
-use Rattle.unit.specs.Units.{empty_slot, slot_of, is_waiting, well_formed, with_slot, rested}
+use Rattle.unit.specs.Units.{slot_of, is_waiting, well_formed, with_slot, rested}
 use Rattle.refusals.specs.Refusals.{lowest}
 use Rattle.requests.specs.declared.Target.{Target}
 use Rattle.requests.specs.declared.Request.{Request}
 use Rattle.unit.specs.declared.Slot.{Slot}
 use Rattle.unit.specs.declared.Slot.TheVariants.{Empty, Waiting}
-use Rattle.refusals.specs.declared.Verdict.{Verdict}
-use Rattle.refusals.specs.declared.Verdict.TheVariants.{Clear, Given}
 use Rattle.unit.specs.declared.Unit.{Unit}
 use Rattle.cdb.specs.Cdb.{immed, wanted, request_for}
 use Rattle.operations.specs.Operations.{failure_of, one_more, flushes_of, flush_counted, report_good, report_failed, accepted_as}
 use Rattle.exchange.specs.Answered.{flushed_well, failed}
 use Rattle.bridge.specs.Bridge.{start_stop_rows}
 use Rattle.exchange.specs.Exchange.{answer_rows}
-use Rattle.cdb.specs.declared.Wanted.TheVariants.{Wants}
 use Rattle.bridge.specs.declared.StartStopped.{StartStopped}
 use Rattle.requests.specs.declared.Reply.{Reply}
 use Rattle.requests.specs.declared.Reply.TheVariants.{Good, Bad}
@@ -39,6 +37,7 @@ use Rattle.runs.specs.Reports.{ends_for, begins_for, end_reports, still_open, fa
 use Rattle.runs.proofs.Slots.{waiting_same, empty_waits, inside, slot_after, none_waits}
 use Rattle.runs.proofs.Deeds.{Taken, deed_at, by_deed, Leaves, sweeps, marks, passes, all_others}
 use Rattle.refusals.specs.declared.Refusal.TheVariants.{BadHost, OwnWaiting}
+use Rattle.refusals.specs.Refusals.{Verdict}
 
 -- ---- what a call is to host k's operation
 
@@ -69,7 +68,7 @@ module _ (k : ℕ) (cdb : List ℕ) where
     still : (d : Deed) → Means k d false false false → Fares (slot_of u.slots k) d (slot_of u.slots k)
     still d means = onward means (λ w. w) (λ e. e)
 
-    begun_fares : (host : ℕ) (given : List ℕ) (t : Target) → lowest (start_stop_rows u host given) ≡ Clear
+    begun_fares : (host : ℕ) (given : List ℕ) (t : Target) → lowest (start_stop_rows u host given) ≡ Ok tt
         → Fared (begins host given) (with_slot host (Waiting (request_for t given)) (rested u))
     begun_fares host given t clear =
         rw (slot_after u.slots host k (Waiting (request_for t given)) (inside u host fine (not_applies (start_stop_rows u host given) BadHost clear)))
@@ -83,7 +82,7 @@ module _ (k : ℕ) (cdb : List ℕ) where
         on false e = still (begins host given) (e, refl, refl)
 
     module _ (host : ℕ) (q : Request) (taken : Taken u host q) where
-      after : (s : Slot) → slot_of (set u.slots host (record { slot = s })) k ≡ cond (eqb host k) s (slot_of u.slots k)
+      after : (s : Slot) → slot_of (set u.slots host s) k ≡ cond (eqb host k) s (slot_of u.slots k)
       after s = slot_after u.slots host k s (inside u host fine (not_applies (answer_rows u host) BadHost taken.clear))
 
       own : eqb host k ≡ true → slot_of u.slots k ≡ Waiting q
@@ -97,12 +96,12 @@ module _ (k : ℕ) (cdb : List ℕ) where
           on true e =
               onward (refl, refl, refl)
               (λ w. let same = waiting_same w.0 q (sym w.1 ∙ own e) in
-              (flush_counted q, refl, w.2 ∙ ap (λ (r : Request). Wants r.target) same, w.3 ∙ ap (λ (r : Request). r.immed) same))
+              (flush_counted q, refl, w.2 ∙ ap (λ (r : Request). Some r.target) same, w.3 ∙ ap (λ (r : Request). r.immed) same))
               (λ none. empty_waits q (sym none ∙ own e))
           on false e = still (goes_on host Good) (refl, refl, refl)
 
       ended_fares : (reply : Reply) (report : Report)
-          → Fares (slot_of u.slots k) (ends host reply report) (slot_of (set u.slots host empty_slot) k)
+          → Fares (slot_of u.slots k) (ends host reply report) (slot_of (set u.slots host Empty) k)
       ended_fares reply report = rw (after Empty) (on (eqb host k) refl)
         where
           on : (b : Bool) → eqb host k ≡ b → Fares (slot_of u.slots k) (ends host reply report) (cond b Empty (slot_of u.slots k))
@@ -178,18 +177,18 @@ module _ (k : ℕ) (cdb : List ℕ) where
 
 -- ---- from its acceptance on
 
-begun_clear : (host : ℕ) (cdb : List ℕ) (v : Verdict) → beginning host cdb v ≡ begins host cdb → v ≡ Clear
-begun_clear host cdb Clear e = refl
-begun_clear host cdb (Given r) e = let no : ◌≡◌ {A = ℕ} 0 1 = cc in absurd (omega arith)
+begun_clear : (host : ℕ) (cdb : List ℕ) (v : Verdict) → beginning host cdb v ≡ begins host cdb → v ≡ Ok tt
+begun_clear host cdb (Ok _) e = refl
+begun_clear host cdb (Err r) e = let no : ◌≡◌ {A = ℕ} 0 1 = cc in absurd (omega arith)
 
 module _ (u : Unit) (host : ℕ) (cdb : List ℕ) (fine : well_formed u ≡ true) (accepts : deed_at u (start_stop host cdb) ≡ begins host cdb) where
-  clear : lowest (start_stop_rows u host cdb) ≡ Clear
+  clear : lowest (start_stop_rows u host cdb) ≡ Ok tt
   clear = sym (own_told u (start_stop host cdb)) ∙ begun_clear host cdb _ accepts
 
   abbrev target : Target
   target = (start_wants u host cdb clear).0
 
-  wants : wanted cdb ≡ Wants target
+  wants : wanted cdb ≡ Some target
   wants = (start_wants u host cdb clear).1
 
   begun_slot : slot_of (step u (start_stop host cdb)).slots host ≡ Waiting (request_for target cdb)
@@ -200,7 +199,7 @@ module _ (u : Unit) (host : ℕ) (cdb : List ℕ) (fine : well_formed u ≡ true
   begun_waits : WaitsAs cdb (slot_of (step u (start_stop host cdb)).slots host)
   begun_waits = (request_for target cdb, begun_slot, wants, refl)
 
-  pub begun_said : (outcome u (start_stop host cdb)).said ≡ accepted (accepted_as (immed cdb))
+  pub begun_said : (outcome u (start_stop host cdb)).said ≡ accepted (Ok (accepted_as (immed cdb)))
   begun_said = ap (λ (o : StartStopped). accepted o.answer) (start_accepted u host cdb target clear wants)
 
 -- Each accepted START STOP UNIT has exactly one end report, or was taken by a reset, or still waits at the end.

@@ -1,4 +1,5 @@
 -- A failure with IMMED is not lost: the end report leaves it held, a held sense is changed only by what `keeps_held` shuts out, and REQUEST SENSE gives it.
+use Rattle.std.proofs.Common.{Ok, Err, Some, None, Option}
 use mathlib.Core.Path.{◌≡◌, refl, sym, ap, ◌∙◌}
 use mathlib.Core.Bool.{Bool, true, false, not, ◌&&◌, cond, false≢true}
 use mathlib.Core.List.{List, [], ◌∷◌}
@@ -15,12 +16,7 @@ use Rattle.requests.specs.Requests.{failure_sense}
 use Rattle.refusals.specs.Refusals.{is_same}
 use Rattle.readouts.specs.Readouts.{sense_rows, told_bytes}
 use Rattle.requests.specs.declared.Request.{Request}
-use Rattle.unit.specs.declared.Held.{Held}
-use Rattle.unit.specs.declared.Held.TheVariants.{Nothing, Holds}
-use Rattle.unit.specs.declared.HostHeld.{HostHeld}
 use Rattle.requests.specs.declared.Failure.{Failure}
-use Rattle.refusals.specs.declared.Verdict.{Verdict}
-use Rattle.refusals.specs.declared.Verdict.TheVariants.{Clear, Given}
 use Rattle.unit.specs.declared.Unit.{Unit}
 use Rattle.cdb.specs.Cdb.{wanted}
 use Rattle.operations.specs.Operations.{failure_of, one_more, flushes_of, report_failed}
@@ -38,6 +34,7 @@ use Rattle.runs.proofs.Deeds.{deed_at, by_deed, all_others}
 use Rattle.runs.proofs.HeldSenses.{held_inside, held_after, failed_held}
 use Rattle.runs.proofs.Reports.{closes, end_reported}
 use Rattle.refusals.specs.declared.Refusal.TheVariants.{BadHost, Aborted}
+use Rattle.refusals.specs.Refusals.{Verdict}
 
 -- ---- the held sense stays
 
@@ -46,17 +43,17 @@ module _ (k : ℕ) where
     abbrev Kept : Deed → Unit → Type 0
     Kept d v = keeps_held k d ≡ true → held_of v.held k ≡ held_of u.held k
 
-    spared : (host : ℕ) (h : Held) → eqb host k ≡ false → held_of (set u.held host (record { held = h })) k ≡ held_of u.held k
+    spared : (host : ℕ) (h : Option Failure) → eqb host k ≡ false → held_of (set u.held host h) k ≡ held_of u.held k
     spared host h other = other_held host k (λ same. eqb-false host k other (sym same)) u.held h
 
     -- A failure that is held is another host's.
     failed_kept : (host : ℕ) (q : Request) (n : ℕ)
         → Kept (ends host Bad (report_failed q.immed (failure_of q.target) n)) (failed u host q n).unit
-    failed_kept host q n h = ap (λ (l : List HostHeld). held_of l k) (failed_held u host q n) ∙ on q.immed h
+    failed_kept host q n h = ap (λ (l : List (Option Failure)). held_of l k) (failed_held u host q n) ∙ on q.immed h
       where
         on : (b : Bool) → keeps_held k (ends host Bad (report_failed b (failure_of q.target) n)) ≡ true
             → held_of (held_after u.held host b (failure_of q.target)) k ≡ held_of u.held k
-        on true h = spared host (Holds (failure_of q.target)) (apart (eqb host k) h)
+        on true h = spared host (Some (failure_of q.target)) (apart (eqb host k) h)
           where
             apart : (b : Bool) → (not (b && true) && true && true) ≡ true → b ≡ false
             apart true h = absurd (false≢true h)
@@ -84,26 +81,26 @@ module _ (k : ℕ) where
 
 -- ---- REQUEST SENSE
 
-does_clear : (c : Call) (v : Verdict) → another c v ≡ does c → v ≡ Clear
-does_clear c Clear e = refl
-does_clear c (Given r) e = on (is_same r Aborted) e
+does_clear : (c : Call) (v : Verdict) → another c v ≡ does c → v ≡ Ok tt
+does_clear c (Ok _) e = refl
+does_clear c (Err r) e = on (is_same r Aborted) e
   where
-    on : (b : Bool) → cond b (was_aborted c) (was_refused c) ≡ does c → Given r ≡ Clear
+    on : (b : Bool) → cond b (was_aborted c) (was_refused c) ≡ does c → ◌≡◌ {A = Verdict} (Err r) (Ok tt)
     on true e = let no : ◌≡◌ {A = ℕ} 0 1 = cc in absurd (omega arith)
     on false e = let no : ◌≡◌ {A = ℕ} 0 1 = cc in absurd (omega arith)
 
 -- An accepted REQUEST SENSE gives the held failure, and then nothing is held.
-sense_told : (w : Unit) (host : ℕ) (buffer : List ℕ) (f : Failure) → well_formed w ≡ true → held_of w.held host ≡ Holds f
+sense_told : (w : Unit) (host : ℕ) (buffer : List ℕ) (f : Failure) → well_formed w ≡ true → held_of w.held host ≡ Some f
     → deed_at w (request_sense host buffer) ≡ does (request_sense host buffer)
     → ((outcome w (request_sense host buffer)).buffer ≡ sense_bytes true (failure_sense f))
-    × (held_of (step w (request_sense host buffer)).held host ≡ Nothing)
+    × (held_of (step w (request_sense host buffer)).held host ≡ None)
 sense_told w host buffer f fine holds e =
     let c = request_sense host buffer in
     let told = does_clear c _ e in
     let did = acceptance_does w c told in
     let below = held_inside w host fine (not_applies (sense_rows w host buffer) BadHost (sym (own_told w c) ∙ told)) in (
       did.1 ∙ ap (told_bytes w.drive.power) holds,
-      ap (λ (v : Unit). held_of v.held host) did.0 ∙ own_held w.held host Nothing below,
+      ap (λ (v : Unit). held_of v.held host) did.0 ∙ own_held w.held host None below,
     )
 
 -- A sense without a status is what the host's next accepted REQUEST SENSE gives.

@@ -1,4 +1,5 @@
 -- Laws about the held senses: how many there are, and what a failure leaves held.
+use Rattle.std.proofs.Common.{Some, Option}
 use mathlib.Core.Path.{◌≡◌, refl}
 use mathlib.Core.Bool.{Bool, true, false, cond}
 use mathlib.Core.List.{List}
@@ -11,8 +12,6 @@ use Rattle.conditions.specs.declared.Power.TheVariants.{Active}
 use Rattle.unit.specs.Units.{well_formed, with_slot, with_power}
 use Rattle.requests.specs.declared.Request.{Request}
 use Rattle.unit.specs.declared.Slot.TheVariants.{Empty}
-use Rattle.unit.specs.declared.Held.TheVariants.{Holds}
-use Rattle.unit.specs.declared.HostHeld.{HostHeld}
 use Rattle.requests.specs.declared.Failure.{Failure}
 use Rattle.operations.specs.Operations.{failure_of}
 use Rattle.unit.specs.declared.Unit.{Unit}
@@ -23,8 +22,8 @@ pub held_inside : (u : Unit) (host : ℕ) → well_formed u ≡ true → ltb 3 h
 held_inside u host fine h = omega (arith, ((unit_fine u).0 fine).held, ltb-false 3 host h)
 
 -- A failure is held with IMMED, and only then.
-abbrev pub held_after : List HostHeld → ℕ → Bool → Failure → List HostHeld
-held_after helds host immediate f = cond immediate (set helds host (record { held = Holds f })) helds
+abbrev pub held_after : List (Option Failure) → ℕ → Bool → Failure → List (Option Failure)
+held_after helds host immediate f = cond immediate (set helds host (Some f)) helds
 
 pub failed_held : (u : Unit) (host : ℕ) (q : Request) (n : ℕ) → (failed u host q n).unit.held ≡ held_after u.held host q.immed (failure_of q.target)
 failed_held u host q n = on q.immed (with_slot host Empty (with_power Active (taken u)))

@@ -1,5 +1,6 @@
 -- The past knows the record: of each waiting operation the CDB, the flushes answered and the answers, and of what is out whether it is a flush.
 -- Each call keeps that, case by case; a case that changes a slot is split by whether it is this host's.
+use Rattle.std.proofs.Common.{Ok, Some, None, Option}
 use mathlib.Core.Path.{◌≡◌, refl, sym, ap, subst, ◌∙◌}
 use mathlib.Core.Bool.{Bool, true, false, ◌||◌, cond, true≢false}
 use mathlib.Core.List.{List, [], ◌∷◌, reverse_aux}
@@ -9,7 +10,7 @@ use lib.Dec.{eqb, ltb}
 use lib.ListN.{length, set, replicate}
 use borrow.Author.Tests.{ltb-true, ltb-false, le-ltb, eq-eqb, eqb-true, not-false}
 use Rattle.rows.proofs.Choices.{either}
-use Rattle.unit.specs.Units.{empty_slot, slot_of, well_formed, with_slot, rested}
+use Rattle.unit.specs.Units.{slot_of, well_formed, with_slot, rested}
 use Rattle.refusals.specs.Refusals.{lowest}
 use Rattle.requests.specs.declared.Target.{Target}
 use Rattle.requests.specs.declared.Target.TheVariants.{Stop, Start, GoTo}
@@ -18,17 +19,12 @@ use Rattle.requests.specs.declared.Stage.TheVariants.{Straight, Flushing}
 use Rattle.requests.specs.declared.Request.{Request}
 use Rattle.unit.specs.declared.Slot.{Slot}
 use Rattle.unit.specs.declared.Slot.TheVariants.{Empty, Waiting}
-use Rattle.unit.specs.declared.HostSlot.{HostSlot}
-use Rattle.unit.specs.declared.Out.{Out}
-use Rattle.unit.specs.declared.Out.TheVariants.{NoneOut, OutFor}
-use Rattle.refusals.specs.declared.Verdict.TheVariants.{Clear}
 use Rattle.unit.specs.declared.Unit.{Unit}
 use Rattle.cdb.specs.Cdb.{byte, immed, no_flush, reserved_in_cdb, wanted, stage_for, request_for}
 use Rattle.operations.specs.Operations.{failure_of, registers_of, due_at, due_from, is_flush, one_more, flushes_of, flush_counted, report_good, report_failed}
 use Rattle.exchange.specs.Answered.{flushed_well, failed}
 use Rattle.bridge.specs.Bridge.{start_stop_rows}
 use Rattle.exchange.specs.Exchange.{next_effect, answer_rows}
-use Rattle.cdb.specs.declared.Wanted.TheVariants.{Wants}
 use Rattle.operations.specs.declared.Due.{Due}
 use Rattle.operations.specs.declared.Due.TheVariants.{Flush, StandbyImmediate, ReadVerify, EpcGoTo}
 use Rattle.requests.specs.declared.Reply.{Reply}
@@ -71,19 +67,19 @@ pub record Noted (cdb : List ℕ) (n : ℕ) (answers : List Reply) (q : Request)
   pub six : length cdb ≡ 6
   pub opcode : byte 0 cdb ≡ 0x1B
   pub unreserved : reserved_in_cdb cdb ≡ false
-  pub wants : wanted cdb ≡ Wants q.target
+  pub wants : wanted cdb ≡ Some q.target
   pub immediate : immed cdb ≡ q.immed
   pub reached : Reached (stage_for q.target (no_flush cdb)) q.stage n answers
 
 abbrev pub NotedBy : List Deed → ℕ → Request → Type 0
 NotedBy past host q = Noted (cdb_of host past) (flushes_answered host past) (answers_got host past) q
 
-abbrev pub Operations : List Deed → List HostSlot → Type 0
+abbrev pub Operations : List Deed → List Slot → Type 0
 Operations past slots = (host : ℕ) (q : Request) → slot_of slots host ≡ Waiting q → NotedBy past host q
 
 -- Of a command that is out the past tells whether it is a flush.
-abbrev pub OutNoted : List Deed → List HostSlot → Bool → Out → Type 0
-OutNoted past slots unsaved out = (host : ℕ) (q : Request) → out ≡ OutFor host → slot_of slots host ≡ Waiting q
+abbrev pub OutNoted : List Deed → List Slot → Bool → Option ℕ → Type 0
+OutNoted past slots unsaved out = (host : ℕ) (q : Request) → out ≡ Some host → slot_of slots host ≡ Waiting q
     → flush_sent host past ≡ is_flush (due_from unsaved q)
 
 abbrev pub Known : List Deed → Unit → Type 0
@@ -134,29 +130,29 @@ flush_reached Straight n answers unsaved q r f = absurd (true≢false (sym f ∙
 flush_reached (Flushing m) n answers unsaved q r f = (rw (r.0, counts_on n), refl)
 
 -- An operation begins with a flush to come exactly if it is a flushing one, and then with none answered.
-pub begins_with : (t : Target) (without : Bool) → stage_for t without ≡ cond (flushing (Wants t) without) (Flushing 0) Straight
+pub begins_with : (t : Target) (without : Bool) → stage_for t without ≡ cond (flushing (Some t) without) (Flushing 0) Straight
 begins_with Stop true = refl
 begins_with Stop false = refl
 begins_with Start without = refl
 begins_with (GoTo c) true = refl
 begins_with (GoTo c) false = refl
 
-pub begins_flushing : (t : Target) (without : Bool) (m : ℕ) → stage_for t without ≡ Flushing m → flushing (Wants t) without ≡ true
-begins_flushing t without m e = on (flushing (Wants t) without) (sym (begins_with t without) ∙ e)
+pub begins_flushing : (t : Target) (without : Bool) (m : ℕ) → stage_for t without ≡ Flushing m → flushing (Some t) without ≡ true
+begins_flushing t without m e = on (flushing (Some t) without) (sym (begins_with t without) ∙ e)
   where
     on : (b : Bool) → cond b (Flushing 0) Straight ≡ Flushing m → b ≡ true
     on true e = refl
     on false e = straight_flushing m e
 
 fresh_reached : (t : Target) (without : Bool) → Reached (stage_for t without) (stage_for t without) 0 []
-fresh_reached t without = rw (begins_with t without) (on (flushing (Wants t) without))
+fresh_reached t without = rw (begins_with t without) (on (flushing (Some t) without))
   where
     on : (b : Bool) → let stage = cond b (Flushing 0) Straight in Reached stage stage 0 []
     on true = (refl, refl)
     on false = (refl, refl, refl)
 
 -- A CDB that is accepted, as the request that it asks for.
-begun_noted : (u : Unit) (host : ℕ) (cdb : List ℕ) (t : Target) → lowest (start_stop_rows u host cdb) ≡ Clear → wanted cdb ≡ Wants t
+begun_noted : (u : Unit) (host : ℕ) (cdb : List ℕ) (t : Target) → lowest (start_stop_rows u host cdb) ≡ Ok tt → wanted cdb ≡ Some t
     → Noted cdb 0 [] (request_for t cdb)
 begun_noted u host cdb t clear wants = record {
   six = eqb-true _ _ (not-false _ (not_applies (start_stop_rows u host cdb) BadLength clear));
@@ -189,7 +185,7 @@ module _ (past : List Deed) (u : Unit) (known : Known past u) where
   abbrev Stay : Deed → Unit → Type 0
   Stay d v = Operations (d ∷ past) v.slots × OutNoted (d ∷ past) v.slots v.unsaved v.out
 
-  begun_stays : (host : ℕ) (cdb : List ℕ) (t : Target) → lowest (start_stop_rows u host cdb) ≡ Clear → wanted cdb ≡ Wants t
+  begun_stays : (host : ℕ) (cdb : List ℕ) (t : Target) → lowest (start_stop_rows u host cdb) ≡ Ok tt → wanted cdb ≡ Some t
       → Stay (begins host cdb) (with_slot host (Waiting (request_for t cdb)) (rested u))
   begun_stays host cdb t clear wants = (
     λ k q w. on k q (eqb host k) (sym (slot_after u.slots host k _ (inside u host known.0 (not_applies (start_stop_rows u host cdb) BadHost clear))) ∙ w),
@@ -213,12 +209,12 @@ module _ (past : List Deed) (u : Unit) (known : Known past u) where
   -- An answer to the host's operation: its slot is set, and nothing is out.
   answered_stays : (d : Deed) (host : ℕ) (q : Request) (s : Slot) (unsaved : Bool) → Taken u host q
       → ((k : ℕ) (p : Request) (b : Bool) → eqb host k ≡ b → cond b s (slot_of u.slots k) ≡ Waiting p → NotedBy (d ∷ past) k p)
-      → Operations (d ∷ past) (set u.slots host (record { slot = s })) × OutNoted (d ∷ past) (set u.slots host (record { slot = s })) unsaved NoneOut
+      → Operations (d ∷ past) (set u.slots host s) × OutNoted (d ∷ past) (set u.slots host s) unsaved None
   answered_stays d host q s unsaved taken noted = (
     λ k p w.
         noted k p (eqb host k) refl
         (sym (slot_after u.slots host k s (inside u host known.0 (not_applies (answer_rows u host) BadHost taken.clear))) ∙ w),
-    λ k p o w. none_out_for NoneOut k refl o,
+    λ k p o w. none_out_for None k refl o,
   )
 
   -- An answer that is taken is to the command that was due.
@@ -238,8 +234,8 @@ module _ (past : List Deed) (u : Unit) (known : Known past u) where
       noted k p false e w = rw e (ops k p w)
 
   ended_stays : (host : ℕ) (reply : Reply) (report : Report) (q : Request) (unsaved : Bool) → Taken u host q
-      → Operations (ends host reply report ∷ past) (set u.slots host empty_slot)
-      × OutNoted (ends host reply report ∷ past) (set u.slots host empty_slot) unsaved NoneOut
+      → Operations (ends host reply report ∷ past) (set u.slots host Empty)
+      × OutNoted (ends host reply report ∷ past) (set u.slots host Empty) unsaved None
   ended_stays host reply report q unsaved taken = answered_stays (ends host reply report) host q Empty unsaved taken noted
     where
       noted : (k : ℕ) (p : Request) (b : Bool) → eqb host k ≡ b → cond b Empty (slot_of u.slots k) ≡ Waiting p
@@ -255,8 +251,8 @@ module _ (past : List Deed) (u : Unit) (known : Known past u) where
       either (Stay (ends host Bad report)) q.immed _ _ over over
 
   cleared : (d : Deed) (unsaved : Bool)
-      → Operations (d ∷ past) (replicate 4 empty_slot) × OutNoted (d ∷ past) (replicate 4 empty_slot) unsaved NoneOut
-  cleared d unsaved = (λ k q w. empty_waits q (sym (none_waits k) ∙ w), λ k q o w. none_out_for NoneOut k refl o)
+      → Operations (d ∷ past) (replicate 4 Empty) × OutNoted (d ∷ past) (replicate 4 Empty) unsaved None
+  cleared d unsaved = (λ k q w. empty_waits q (sym (none_waits k) ∙ w), λ k q o w. none_out_for None k refl o)
 
   -- A call that is no part of an operation.
   other_stays : (c : Call) (v : Unit) → Leaves u c v → Stay (does c) v

@@ -1,5 +1,6 @@
 -- The morning after: a stopped unit whose spindle does not turn (document 02, request (ii)). A run that demand 3 speaks of, its serial run and what both
 -- leave, computed as Afternoon's is; then what the host hears, and a start that goes well.
+use Rattle.std.proofs.Common.{Ok, Err, Some, None}
 use mathlib.Core.Bool.{true, false}
 use mathlib.Core.Path.{◌≡◌, refl}
 use mathlib.Core.List.{List, [], ◌∷◌, map}
@@ -8,17 +9,13 @@ use lib.ListN.{replicate}
 use Rattle.conditions.specs.declared.Condition.TheVariants.{StandbyZ}
 use Rattle.conditions.specs.declared.Cause.TheVariants.{Command}
 use Rattle.conditions.specs.declared.Power.TheVariants.{Low, Active}
-use Rattle.unit.specs.Units.{none_held, well_formed, with_marks, with_power}
+use Rattle.unit.specs.Units.{well_formed, with_marks, with_power}
 use Rattle.refusals.specs.declared.Refusal.TheVariants.{CommandOut, IsStopped}
-use Rattle.refusals.specs.declared.Answer.TheVariants.{Done, Refused}
-use Rattle.refusals.specs.declared.SenseDue.TheVariants.{NoSense}
 use Rattle.requests.specs.declared.Failure.TheVariants.{NotReady}
 use Rattle.requests.specs.declared.Reply.TheVariants.{Good, Bad}
-use Rattle.unit.specs.declared.Held.TheVariants.{Holds}
 use Rattle.unit.specs.declared.Unit.{Unit}
 use Rattle.registers.specs.Commands.{ata_command}
 use Rattle.operations.specs.declared.Acceptance.TheVariants.{GoodDue, Pending}
-use Rattle.operations.specs.declared.Next.TheVariants.{Send}
 use Rattle.operations.specs.declared.Progress.TheVariants.{Ended}
 use Rattle.operations.specs.declared.Status.{Status}
 use Rattle.operations.specs.declared.Status.TheVariants.{NoStatus, GoodStatus, CheckCondition}
@@ -41,30 +38,30 @@ abbrev pub to_active : List ℕ
 to_active = 0x1B ∷ 0x00 ∷ 0x00 ∷ 0x00 ∷ 0x10 ∷ 0x00 ∷ []
 
 abbrev sends_verify : Said
-sends_verify = sent (Send (ata_command 0x40 0 1 0))
+sends_verify = sent (Ok (ata_command 0x40 0 1 0))
 
 abbrev failed_with : Status → Said
-failed_with status = progressed (Ended (record { status = status; sense = sense_due 0x02 0x04 0x02; flushes = 0 }))
+failed_with status = progressed (Ok (Ended (record { status = status; sense = sense_due 0x02 0x04 0x02; flushes = 0 })))
 
 -- ---- the real run
 
 abbrev morning : List Line
 morning =
     -- host 0 has its GOOD at once; host 1 waits for its status
-    start_stop 0 start_immediate says accepted GoodDue
-    ∷ start_stop 1 to_active says accepted Pending
+    start_stop 0 start_immediate says accepted (Ok GoodDue)
+    ∷ start_stop 1 to_active says accepted (Ok Pending)
     -- the verify is out
     ∷ next 0 says sends_verify
-    ∷ tick says plain Done
-    ∷ read 2 says plain (Refused CommandOut)
+    ∷ tick says plain (Ok tt)
+    ∷ read 2 says plain (Err CommandOut)
     -- it is bad: no status is due, the failure is held
     ∷ answer 0 Bad says failed_with NoStatus
     -- number 9: the unit is Active, and still stopped
-    ∷ read 2 says plain (Refused IsStopped)
+    ∷ read 2 says plain (Err IsStopped)
     -- host 1's is bad too, and told
     ∷ next 1 says sends_verify
     ∷ answer 1 Bad says failed_with CheckCondition
-    ∷ tick says plain Done
+    ∷ tick says plain (Ok tt)
     ∷ []
 
 abbrev calls_made : List Call
@@ -92,7 +89,7 @@ forenoon = record {
   idle = record { 0 = 1 };
   stopped = true;
   unsaved = false;
-  held = record { held = Holds NotReady } ∷ none_held ∷ none_held ∷ none_held ∷ [];
+  held = Some NotReady ∷ None ∷ None ∷ None ∷ [];
 }
 
 -- ---- both computed
@@ -132,10 +129,10 @@ later_told = refl
 -- A start whose verify is good lifts the stopped mark, and a read is taken.
 abbrev turns : List Line
 turns =
-    start_stop 1 to_active says accepted Pending
+    start_stop 1 to_active says accepted (Ok Pending)
     ∷ next 1 says sends_verify
-    ∷ answer 1 Good says progressed (Ended (record { status = GoodStatus; sense = NoSense; flushes = 0 }))
-    ∷ read 2 says plain Done
+    ∷ answer 1 Good says progressed (Ok (Ended (record { status = GoodStatus; sense = None; flushes = 0 })))
+    ∷ read 2 says plain (Ok tt)
     ∷ []
 
 pub then_starts : map line_of (history (run night calls_made) (map (λ l. l.call) turns)) ≡ turns

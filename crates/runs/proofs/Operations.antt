@@ -1,5 +1,6 @@
 -- Demand 3 at the calls of an operation. Until its last answer nothing stands in the serial run, and only the unsaved mark may come apart. At its last
 -- answer it is run whole there: both runs then have the same answer to the same command, which sets condition, idle count, marks and held sense alike.
+use Rattle.std.proofs.Common.{Ok, Some}
 use mathlib.Core.Path.{◌≡◌, refl, sym, ap, subst, ◌∙◌}
 use mathlib.Core.Bool.{Bool, true, false, true≢false}
 use mathlib.Core.List.{List, [], ◌∷◌, append-nil}
@@ -9,19 +10,16 @@ use lib.Dec.{eqb}
 use lib.ListN.{set}
 use borrow.Author.Tests.{eq-eqb}
 use Rattle.registers.specs.declared.Registers.{Registers}
-use Rattle.unit.specs.Units.{empty_slot, slot_of, is_waiting, with_slot, rested}
+use Rattle.unit.specs.Units.{slot_of, is_waiting, with_slot, rested}
 use Rattle.refusals.specs.Refusals.{lowest}
 use Rattle.requests.specs.declared.Target.{Target}
 use Rattle.requests.specs.declared.Stage.{Stage}
 use Rattle.requests.specs.declared.Stage.TheVariants.{Straight, Flushing}
 use Rattle.requests.specs.declared.Request.{Request}
 use Rattle.unit.specs.declared.Slot.TheVariants.{Empty, Waiting}
-use Rattle.unit.specs.declared.HostSlot.{HostSlot}
 use Rattle.requests.specs.declared.Failure.{Failure}
-use Rattle.refusals.specs.declared.Verdict.TheVariants.{Clear}
 use Rattle.unit.specs.declared.Unit.{Unit}
 use Rattle.cdb.specs.Cdb.{no_flush, is_listed, stage_for, request_for, fits as target_fits}
-use Rattle.cdb.specs.declared.Wanted.TheVariants.{Wants}
 use Rattle.operations.specs.Operations.{failure_of, registers_of, last_of, due_from, is_flush, one_more, flushes_of, report_good, report_failed, flush_counted}
 use Rattle.exchange.specs.Answered.{held_if, flushed_well, failed, succeeded, last_answered, answered_for}
 use Rattle.bridge.specs.Bridge.{start_stop_rows}
@@ -45,6 +43,7 @@ use Rattle.runs.proofs.Whole.{Admitted, Ready, ready_begun, ready_flushed, flush
 use Rattle.runs.proofs.Slots.{waiting_same, inside, Quiet, quiet_out}
 use Rattle.runs.proofs.Same.{Helped, SameMark, Same, StandFor, Follows, Stands, left_fine, waits_on, mark_beside}
 use Rattle.refusals.specs.declared.Refusal.TheVariants.{BadHost, OwnWaiting}
+use Rattle.unit.specs.declared.Slot.{Slot}
 
 -- ---- both ends
 
@@ -57,7 +56,7 @@ record BothEnded (u w u' w' : Unit) (host : ℕ) : Type 0 where
   stopped : w'.stopped ≡ u'.stopped
   held : w'.held ≡ u'.held
   quiet : Quiet w'
-  slots : u'.slots ≡ set u.slots host empty_slot
+  slots : u'.slots ≡ set u.slots host Empty
   mark : u'.unsaved ≡ u.unsaved
   mark' : w'.unsaved ≡ w.unsaved
 
@@ -81,7 +80,7 @@ abbrev last_report : Reply → Request → Report
 last_report Good q = report_good q.immed (flushes_of q.stage)
 last_report Bad q = report_failed q.immed (failure_of q.target) (flushes_of q.stage)
 
-last_report_lem : (reply : Reply) (u : Unit) (host : ℕ) (q : Request) → (last_answered u host q reply).answer ≡ Ended (last_report reply q)
+last_report_lem : (reply : Reply) (u : Unit) (host : ℕ) (q : Request) → (last_answered u host q reply).answer ≡ Ok (Ended (last_report reply q))
 last_report_lem Good u host q = refl
 last_report_lem Bad u host q = refl
 
@@ -134,11 +133,11 @@ module _ (u v w : Unit) (host : ℕ) (q p : Request) (same : Same u v) (ready : 
 -- ---- the operation that helped
 
 -- Its last command is due,
-helper_due : (slots : List HostSlot) (mark : Bool) (h : Helped slots mark) → is_flush (due_from mark h.request) ≡ false
+helper_due : (slots : List Slot) (mark : Bool) (h : Helped slots mark) → is_flush (due_from mark h.request) ≡ false
 helper_due slots mark h = rw (h.saved, h.stage, h.some) (last_no_flush h.request.target)
 
 -- and it is the one that waits in its host's slot.
-helper_is : (slots : List HostSlot) (mark : Bool) (h : Helped slots mark) (host : ℕ) (q : Request) → slot_of slots host ≡ Waiting q → h.host ≡ host
+helper_is : (slots : List Slot) (mark : Bool) (h : Helped slots mark) (host : ℕ) (q : Request) → slot_of slots host ≡ Waiting q → h.host ≡ host
     → h.request ≡ q
 helper_is slots mark h host q waits e = waiting_same h.request q (sym h.waits ∙ ap (slot_of slots) e ∙ waits)
 
@@ -159,7 +158,7 @@ module _ (past : List Deed) (u v : Unit) (known : Known past u) (same : Same u v
 
   -- ---- before the end
 
-  pub begins_on : (host : ℕ) (cdb : List ℕ) (t : Target) → lowest (start_stop_rows u host cdb) ≡ Clear
+  pub begins_on : (host : ℕ) (cdb : List ℕ) (t : Target) → lowest (start_stop_rows u host cdb) ≡ Ok tt
       → Here (begins host cdb) (with_slot host (Waiting (request_for t cdb)) (rested u))
   begins_on host cdb t clear r =
       let begun = with_slot host (Waiting (request_for t cdb)) (rested u) in
@@ -209,9 +208,9 @@ module _ (past : List Deed) (u v : Unit) (known : Known past u) (same : Same u v
     listed =
         let fits = request_fits u.drive.records q.target q.stage (rw taken.waiting at (((unit_fine u).0 known.0).requests host)) in
         listed_when v.drive.records cdb q.target noted.unreserved noted.wants
-        (subst (λ rs. target_fits rs (Wants q.target) ≡ true) (sym same.records) fits)
+        (subst (λ rs. target_fits rs (Some q.target) ≡ true) (sym same.records) fits)
 
-    accepts : lowest (start_stop_rows v host cdb) ≡ Clear
+    accepts : lowest (start_stop_rows v host cdb) ≡ Ok tt
     accepts =
         clear_when (start_stop_rows v host cdb)
         (rw (
@@ -236,7 +235,7 @@ module _ (past : List Deed) (u v : Unit) (known : Known past u) (same : Same u v
     ends_on : (reply : Reply) (report : Report) (answers : List Reply) (ds : List Deed) (w u' w' : Unit)
         → answers_got host (ends host reply report ∷ past) ≡ answers → RunsTo v (whole host cdb answers) ds w'
         → StandFor past (ends host reply report) ds → BothEnded u w u' w' host
-        → SameMark (set u.slots host empty_slot) u.unsaved w.unsaved → Follows past v (ends host reply report) u'
+        → SameMark (set u.slots host Empty) u.unsaved w.unsaved → Follows past v (ends host reply report) u'
     ends_on reply report answers ds w u' w' e runs stand both mark = record {
       ds = ds;
       v' = w';
@@ -255,7 +254,7 @@ module _ (past : List Deed) (u v : Unit) (known : Known past u) (same : Same u v
     }
 
     -- An operation that is not the one that helped leaves the marks as they are beside each other.
-    mark_stays : ((h : Helped u.slots u.unsaved) → h.request ≡ q → ⊥) → SameMark (set u.slots host empty_slot) u.unsaved v.unsaved
+    mark_stays : ((h : Helped u.slots u.unsaved) → h.request ≡ q → ⊥) → SameMark (set u.slots host Empty) u.unsaved v.unsaved
     mark_stays other =
         mark_beside u.slots u.unsaved v.unsaved host Empty
         (λ h e. other h (helper_is u.slots u.unsaved h host q taken.waiting e)) same.unsaved

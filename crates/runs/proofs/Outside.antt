@@ -1,4 +1,5 @@
 -- What the guarantee of no byte left behind does not reach, and where it reaches across hosts: small runs, computed.
+use Rattle.std.proofs.Common.{Ok}
 use mathlib.Core.Bool.{true, false}
 use mathlib.Core.Path.{◌≡◌, refl}
 use mathlib.Core.List.{List, [], ◌∷◌, ◌++◌}
@@ -6,7 +7,6 @@ use Rattle.conditions.specs.declared.Condition.TheVariants.{StandbyZ}
 use Rattle.conditions.specs.declared.Cause.TheVariants.{Timer, Command}
 use Rattle.conditions.specs.declared.Power.TheVariants.{Low}
 use Rattle.registers.specs.Commands.{ata_command}
-use Rattle.operations.specs.declared.Next.TheVariants.{Send}
 use Rattle.requests.specs.declared.Reply.TheVariants.{Good}
 use Rattle.calls.specs.Calls.{Call, tick, write, power_on, hard_reset, start_stop, next, answer, sent, outcome, run}
 use Rattle.calls.specs.Examples.{off, on, new, fresh, epc_call}
@@ -71,6 +71,6 @@ pub any_flush_serves :
     (outcome
     (run fresh
     (start_stop 0 stop ∷ next 0 ∷ answer 0 Good ∷ write 2 ∷ start_stop 1 stop ∷ next 1 ∷ answer 1 Good ∷ [])) (next 0)).said
-    ≡ sent (Send (ata_command 0xE0 0 0 0))
+    ≡ sent (Ok (ata_command 0xE0 0 0 0))
 unfolding computed
 any_flush_serves = refl

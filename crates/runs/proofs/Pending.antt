@@ -1,5 +1,6 @@
 -- The START STOP UNITs of the serial run are those of the real one: a host's CDB is pending from its acceptance to its last answer, where its whole run
 -- stands for it. With each call, what was pending and what begins is what ends and what is pending then.
+use Rattle.std.proofs.Common.{Ok}
 use mathlib.Core.Path.{◌≡◌, refl, sym, ap, ◌∙◌}
 use mathlib.Core.Bool.{Bool, true, false, cond, true≢false}
 use mathlib.Core.List.{List, [], ◌∷◌, ◌++◌, append-nil}
@@ -8,12 +9,10 @@ use lib.Dec.{eqb, ltb}
 use lib.ListN.{set, replicate}
 use borrow.Author.Tests.{eqb-true}
 use Rattle.rows.proofs.Choices.{either}
-use Rattle.unit.specs.Units.{empty_slot, slot_of, is_waiting, with_slot, rested}
+use Rattle.unit.specs.Units.{slot_of, is_waiting, with_slot, rested}
 use Rattle.refusals.specs.Refusals.{lowest}
-use Rattle.refusals.specs.declared.Verdict.TheVariants.{Clear}
 use Rattle.unit.specs.declared.Slot.{Slot}
 use Rattle.unit.specs.declared.Slot.TheVariants.{Empty, Waiting}
-use Rattle.unit.specs.declared.HostSlot.{HostSlot}
 use Rattle.requests.specs.declared.Target.{Target}
 use Rattle.requests.specs.declared.Request.{Request}
 use Rattle.unit.specs.declared.Unit.{Unit}
@@ -39,7 +38,7 @@ abbrev pub pending_in : Slot → List ℕ → List (List ℕ)
 pending_in Empty cdb = []
 pending_in (Waiting q) cdb = cdb ∷ []
 
-abbrev pub pending : ℕ → List Deed → List HostSlot → List (List ℕ)
+abbrev pub pending : ℕ → List Deed → List Slot → List (List ℕ)
 pending k past slots = pending_in (slot_of slots k) (cdb_of k past)
 
 none_pending : (s : Slot) (cdb : List ℕ) → is_waiting s ≡ false → pending_in s cdb ≡ []
@@ -57,14 +56,14 @@ module _ (past : List Deed) (u : Unit) (known : Known past u) (k : ℕ) where
 
   -- a slot set, by whether it is this host's
   set_pending : (host : ℕ) (s : Slot) → ltb 3 host ≡ false → (cdb : List ℕ)
-      → pending_in (slot_of (set u.slots host (record { slot = s })) k) cdb ≡ pending_in (cond (eqb host k) s (slot_of u.slots k)) cdb
+      → pending_in (slot_of (set u.slots host s) k) cdb ≡ pending_in (cond (eqb host k) s (slot_of u.slots k)) cdb
   set_pending host s below cdb = ap (λ (x : Slot). pending_in x cdb) (slot_after u.slots host k s (inside u host known.0 below))
 
   -- this host's operation, which waits
   own_pending : (host : ℕ) (q : Request) → eqb host k ≡ true → slot_of u.slots host ≡ Waiting q → pending k past u.slots ≡ cdb_of host past ∷ []
   own_pending host q e waits = rw (← eqb-true host k e, waits)
 
-  begins_balance : (host : ℕ) (cdb : List ℕ) (t : Target) → lowest (start_stop_rows u host cdb) ≡ Clear
+  begins_balance : (host : ℕ) (cdb : List ℕ) (t : Target) → lowest (start_stop_rows u host cdb) ≡ Ok tt
       → Balance (begins host cdb) (with_slot host (Waiting (request_for t cdb)) (rested u))
   begins_balance host cdb t clear r =
       on (eqb host k) refl ∙ sym (set_pending host _ (not_applies (start_stop_rows u host cdb) BadHost clear) _)
@@ -86,7 +85,7 @@ module _ (past : List Deed) (u : Unit) (known : Known past u) (k : ℕ) where
       on false e = unmoved
 
   ends_balance : (host : ℕ) (q : Request) → Taken u host q
-      → pending k past u.slots ++ [] ≡ cond (eqb host k) (cdb_of host past ∷ []) [] ++ pending k past (set u.slots host empty_slot)
+      → pending k past u.slots ++ [] ≡ cond (eqb host k) (cdb_of host past ∷ []) [] ++ pending k past (set u.slots host Empty)
   ends_balance host q taken =
       on (eqb host k) refl
       ∙ ap (λ (l : List (List ℕ)). cond (eqb host k) (cdb_of host past ∷ []) [] ++ l)
@@ -105,7 +104,7 @@ module _ (past : List Deed) (u : Unit) (known : Known past u) (k : ℕ) where
       (λ (v : Unit). pending k past u.slots ++ [] ≡ cond (eqb host k) (cdb_of host past ∷ []) [] ++ pending k past v.slots)
       q.immed _ _ (ends_balance host q taken) (ends_balance host q taken)
 
-  resets_balance : Quiet u → pending k past u.slots ++ [] ≡ pending_in (slot_of (replicate 4 empty_slot) k) (cdb_of k past)
+  resets_balance : Quiet u → pending k past u.slots ++ [] ≡ pending_in (slot_of (replicate 4 Empty) k) (cdb_of k past)
   resets_balance quiet = rw (quiet k, none_waits k)
 
   other_balance : (c : Call) (v : Unit) → Leaves u c v → Balance (does c) v

@@ -1,4 +1,5 @@
 -- What the end report tells: an operation ends with its request's IMMED and its last answer, and both are those of its CDB and of the history.
+use Rattle.std.proofs.Common.{Some, None, Option}
 use mathlib.Core.Path.{◌≡◌, refl, sym, ap, ◌∙◌}
 use mathlib.Core.Bool.{Bool, true, false, cond}
 use mathlib.Core.List.{List}
@@ -11,16 +12,12 @@ use Rattle.requests.specs.declared.Request.{Request}
 use Rattle.requests.specs.declared.Target.{Target}
 use Rattle.requests.specs.declared.Target.TheVariants.{Stop, Start, GoTo}
 use Rattle.unit.specs.declared.Slot.TheVariants.{Waiting}
-use Rattle.unit.specs.declared.Held.TheVariants.{Holds}
-use Rattle.unit.specs.declared.HostHeld.{HostHeld}
 use Rattle.requests.specs.declared.Failure.{Failure}
-use Rattle.refusals.specs.declared.SenseDue.TheVariants.{NoSense, WithSense}
 use Rattle.unit.specs.declared.Unit.{Unit}
 use Rattle.cdb.specs.Cdb.{immed, wanted}
 use Rattle.operations.specs.Operations.{failure_of, one_more, flushes_of, report_good, report_failed}
 use Rattle.exchange.specs.Answered.{failed}
 use Rattle.exchange.specs.Exchange.{answer_rows}
-use Rattle.cdb.specs.declared.Wanted.TheVariants.{Wants}
 use Rattle.requests.specs.declared.Reply.{Reply}
 use Rattle.requests.specs.declared.Reply.TheVariants.{Good, Bad}
 use Rattle.operations.specs.declared.Report.{Report}
@@ -38,7 +35,7 @@ use Rattle.runs.proofs.Fates.{begun_said, one_fate}
 use Rattle.refusals.specs.declared.Refusal.TheVariants.{BadHost}
 
 -- The failure of each target has the sense that the statement names.
-sense_named : (t : Target) → failure_sense (failure_of t) ≡ sense_for (Wants t)
+sense_named : (t : Target) → failure_sense (failure_of t) ≡ sense_for (Some t)
 sense_named Stop = refl
 sense_named Start = refl
 sense_named (GoTo c) = refl
@@ -48,9 +45,9 @@ pub record Closes (u : Unit) (host : ℕ) (reply : Reply) (report : Report) (v :
   pub request : Request
   pub waiting : slot_of u.slots host ≡ Waiting request
   pub status : report.status ≡ cond request.immed NoStatus (cond (fails reply) CheckCondition GoodStatus)
-  pub sense : report.sense ≡ cond (fails reply) (WithSense (failure_sense (failure_of request.target))) NoSense
-  pub held : (s : Sense) → report.status ≡ NoStatus → report.sense ≡ WithSense s
-      → (f : Failure) × (held_of v.held host ≡ Holds f) × (failure_sense f ≡ s)
+  pub sense : report.sense ≡ cond (fails reply) (Some (failure_sense (failure_of request.target))) None
+  pub held : (s : Sense) → report.status ≡ NoStatus → report.sense ≡ Some s
+      → (f : Failure) × (held_of v.held host ≡ Some f) × (failure_sense f ≡ s)
 
 module _ (u : Unit) (fine : well_formed u ≡ true) where
   module _ (host : ℕ) (q : Request) (taken : Taken u host q) where
@@ -71,13 +68,13 @@ module _ (u : Unit) (fine : well_formed u ≡ true) where
       sense = refl;
       held = λ s none e. (
         failure_of q.target,
-        ap (λ (l : List HostHeld). held_of l host) (failed_held u host q n) ∙ holds q.immed none,
+        ap (λ (l : List (Option Failure)). held_of l host) (failed_held u host q n) ∙ holds q.immed none,
         cc,
       );
     }
       where
         holds : (b : Bool) → cond b NoStatus CheckCondition ≡ NoStatus
-            → held_of (held_after u.held host b (failure_of q.target)) host ≡ Holds (failure_of q.target)
+            → held_of (held_after u.held host b (failure_of q.target)) host ≡ Some (failure_of q.target)
         holds true none = own_held u.held host _ (held_inside u host fine (not_applies (answer_rows u host) BadHost taken.clear))
         holds false none = let no : ◌≡◌ {A = ℕ} 0 1 = cc in absurd (omega arith)
 
@@ -96,7 +93,7 @@ end_reported u host cdb cs reply report fine accepts unended ends-here =
     let waits = (one_fate u host cdb cs fine accepts).1 unended in
     let over = closes (run v cs) (run_well_formed v cs (well_formed_kept u (start_stop host cdb) fine)) host reply report ends-here in
     let same = waiting_same waits.0 over.request (sym waits.1 ∙ over.waiting) in
-    let wants : wanted cdb ≡ Wants over.request.target = waits.2 ∙ ap (λ (q : Request). Wants q.target) same in
+    let wants : wanted cdb ≡ Some over.request.target = waits.2 ∙ ap (λ (q : Request). Some q.target) same in
     let immediate : immed cdb ≡ over.request.immed = waits.3 ∙ ap (λ (q : Request). q.immed) same in
     record {
       acceptance = begun_said u host cdb fine accepts;

@@ -1,5 +1,6 @@
 -- The unsaved mark says whether every write is safe: a write sets it, a good flush or a power-on clears it, every other call leaves it and each write
 -- as they were. And the last command of a flushing operation is due only with the mark clear.
+use Rattle.std.proofs.Common.{Some}
 use mathlib.Core.Path.{◌≡◌, refl, sym, ap, ◌∙◌}
 use mathlib.Core.Bool.{Bool, true, false, ◌||◌, cond, and-false, or-false, or-true, true≢false, false≢true}
 use mathlib.Core.List.{List, [], ◌∷◌}
@@ -24,7 +25,6 @@ use Rattle.unit.specs.declared.Unit.{Unit}
 use Rattle.cdb.specs.Cdb.{no_flush}
 use Rattle.operations.specs.Operations.{failure_of, registers_of, last_of, due_from, is_flush, report_failed}
 use Rattle.exchange.specs.Answered.{failed}
-use Rattle.cdb.specs.declared.Wanted.TheVariants.{Wants}
 use Rattle.requests.specs.declared.Reply.{Reply}
 use Rattle.requests.specs.declared.Reply.TheVariants.{Good, Bad}
 use Rattle.operations.specs.declared.Report.{Report}
@@ -152,7 +152,7 @@ marked_later d past true no_write no_power no-flush some = unsafe_later d past n
 noted_saved : {cdb : List ℕ} {n : ℕ} {answers : List Reply} {q : Request} → Noted cdb n answers q → asks_flush cdb ≡ true
     → (unsaved : Bool) → is_flush (due_from unsaved q) ≡ false → unsaved ≡ false
 noted_saved {cdb} {n} {answers} {q} noted asks unsaved last =
-    let asked : flushing (Wants q.target) (no_flush cdb) ≡ true = rw noted.wants at asks in
+    let asked : flushing (Some q.target) (no_flush cdb) ≡ true = rw noted.wants at asks in
     let begun = begins_with q.target (no_flush cdb) ∙ ap (λ (b : Bool). cond b (Flushing 0) Straight) asked in
     let now = (rw begun at noted.reached).0 in
     (last_means (held_at255 n) unsaved (last_of q.target) (rw now at last)).1

@@ -1,6 +1,7 @@
 -- Demand 3, one call at a time: beside the real record u stands the serial one v, in which nothing ever waits. Settings, stopped mark and held senses
 -- are always the same, condition and idle count whenever nothing waits in u; the unsaved mark too, but that a waiting operation's good flush may have
 -- cleared it in u alone, until that operation ends.
+use Rattle.std.proofs.Common.{Ok, Err, None}
 use mathlib.Core.Path.{◌≡◌, refl, sym, ap, ◌∙◌}
 use mathlib.Core.Bool.{Bool, true, false, cond, false≢true}
 use mathlib.Core.List.{List, [], ◌∷◌}
@@ -24,13 +25,10 @@ use Rattle.refusals.specs.Verdicts.{rows_of_page}
 use Rattle.engine.specs.Engine.{epc_rows, tick_rows, medium_rows, reset_rows, epc_effect, tick_effect, read_effect, write_effect, power_on_effect, hard_reset_effect}
 use Rattle.readouts.specs.Readouts.{sense_rows, log_rows, transitions_rows, new_page_rows, sense_effect}
 use Rattle.refusals.specs.declared.Refusal.TheVariants.{Aborted, BadHost, BadLength, NoSuchPage, IsStopped}
-use Rattle.refusals.specs.declared.Verdict.TheVariants.{Clear, Given}
 use Rattle.requests.specs.declared.Stage.TheVariants.{Flushing}
 use Rattle.requests.specs.declared.Request.{Request}
 use Rattle.unit.specs.declared.Slot.{Slot}
 use Rattle.unit.specs.declared.Slot.TheVariants.{Waiting}
-use Rattle.unit.specs.declared.HostSlot.{HostSlot}
-use Rattle.unit.specs.declared.Out.TheVariants.{NoneOut}
 use Rattle.unit.specs.declared.Unit.{Unit}
 use Rattle.calls.specs.Calls.{Call, set_features, tick, read, write, power_on, hard_reset, soft_reset, request_sense, log_page, transitions_page, new_page, Said, outcome}
 use Rattle.calls.specs.Table.{verdict_in}
@@ -48,7 +46,7 @@ use Rattle.runs.proofs.RunsTo.{RunsTo, runs_nothing, runs_on}
 -- ---- the two records
 
 -- The unsaved mark is clear by a good flush of an operation that still waits.
-pub record Helped (slots : List HostSlot) (unsaved : Bool) : Type 0 where
+pub record Helped (slots : List Slot) (unsaved : Bool) : Type 0 where
   pub saved : unsaved ≡ false
   pub host : ℕ
   pub request : Request
@@ -58,7 +56,7 @@ pub record Helped (slots : List HostSlot) (unsaved : Bool) : Type 0 where
   pub some : eqb count 0 ≡ false
 
 -- The unsaved mark of the serial record beside that of the real one, with the real one's slots.
-abbrev pub SameMark : List HostSlot → Bool → Bool → Type 0
+abbrev pub SameMark : List Slot → Bool → Bool → Type 0
 SameMark slots mark mark' = (mark' ≡ mark) ⊎ Helped slots mark
 
 pub record Same (u v : Unit) : Type 0 where
@@ -72,8 +70,8 @@ pub record Same (u v : Unit) : Type 0 where
   pub at_rest : Quiet u → (v.drive.power ≡ u.drive.power) × (v.drive.idle ≡ u.drive.idle)
 
 -- A slot is set, and it is not that of the operation that helped.
-pub mark_beside : (slots : List HostSlot) (mark mark' : Bool) (host : ℕ) (s : Slot) → ((h : Helped slots mark) → h.host ≡ host → ⊥)
-    → SameMark slots mark mark' → SameMark (set slots host (record { slot = s })) mark mark'
+pub mark_beside : (slots : List Slot) (mark mark' : Bool) (host : ℕ) (s : Slot) → ((h : Helped slots mark) → h.host ≡ host → ⊥)
+    → SameMark slots mark mark' → SameMark (set slots host s) mark mark'
 mark_beside slots mark mark' host s other (inl e) = inl e
 mark_beside slots mark mark' host s other (inr h) = inr (record {
   saved = h.saved;
@@ -129,13 +127,13 @@ pub record Follows (past : List Deed) (v : Unit) (d : Deed) (u' : Unit) : Type 0
 
 -- ---- a call that is no part of an operation, made on the serial record too
 
-accepted_here : (v : Unit) (c : Call) → ((said : Said) → deed_of c said ≡ another c (verdict_in said)) → lowest (own_rows v c) ≡ Clear
+accepted_here : (v : Unit) (c : Call) → ((said : Said) → deed_of c said ≡ another c (verdict_in said)) → lowest (own_rows v c) ≡ Ok tt
     → RunsTo v (c ∷ []) (does c ∷ []) (effect v c)
 accepted_here v c other clear =
     runs_on v (effect v c) (effect v c) c (does c) [] [] (other (outcome v c).said ∙ ap (another c) (own_told v c ∙ clear)) (own_effect v c clear).0
     (runs_nothing (effect v c))
 
-aborted_here : (v : Unit) (q : Registers) → lowest (epc_rows v q) ≡ Given Aborted → RunsTo v (set_features q ∷ []) (was_aborted (set_features q) ∷ []) (rested v)
+aborted_here : (v : Unit) (q : Registers) → lowest (epc_rows v q) ≡ Err Aborted → RunsTo v (set_features q ∷ []) (was_aborted (set_features q) ∷ []) (rested v)
 aborted_here v q ten =
     let told = own_told v (set_features q) ∙ ten in
     runs_on v (rested v) (rested v) (set_features q) (was_aborted (set_features q)) [] [] (ap (another (set_features q)) told)
@@ -145,7 +143,7 @@ pub left_fine : (v w : Unit) (cs : List Call) (ds : List Deed) → well_formed v
 left_fine v w cs ds fine runs = rw (← runs.left) (run_well_formed v cs fine)
 
 module _ (past : List Deed) (u v : Unit) (fine : well_formed u ≡ true) (same : Same u v) where
-  none_out : v.out ≡ NoneOut
+  none_out : v.out ≡ None
   none_out = quiet_out v same.fine same.quiet
 
   abbrev pub Stands : Deed → Unit → Type 0
@@ -156,7 +154,7 @@ module _ (past : List Deed) (u v : Unit) (fine : well_formed u ≡ true) (same :
   nothing d u' silent s = record { ds = []; v' = v; runs = rw silent.0 (runs_nothing v); same = s; stand = stand_none past d silent }
 
   -- The call itself stands for it.
-  itself : (c : Call) (u' v' : Unit) → ((said : Said) → deed_of c said ≡ another c (verdict_in said)) → lowest (own_rows v c) ≡ Clear
+  itself : (c : Call) (u' v' : Unit) → ((said : Said) → deed_of c said ≡ another c (verdict_in said)) → lowest (own_rows v c) ≡ Ok tt
       → effect v c ≡ v' → (well_formed v' ≡ true → Same u' v') → Follows past v (does c) u'
   itself c u' v' other clear leaves s =
       let runs = rw leaves at (accepted_here v c other clear) in
@@ -184,7 +182,7 @@ module _ (past : List Deed) (u v : Unit) (fine : well_formed u ≡ true) (same :
     at_rest = rest;
   }
 
-  tick_clear : lowest (tick_rows v) ≡ Clear
+  tick_clear : lowest (tick_rows v) ≡ Ok tt
   tick_clear = clear_when (tick_rows v) (rw same.fine)
 
   -- With a command out something waits, so only the records are compared.
@@ -206,13 +204,13 @@ module _ (past : List Deed) (u v : Unit) (fine : well_formed u ≡ true) (same :
       itself tick (tick_effect u) (with_drive (ticked (largest_of v) v.drive) v) (λ said. refl) tick_clear (rw none_out)
       (ticked_same (is_out u.out) refl)
 
-  epc_clear : (q : Registers) → lowest (epc_rows u q) ≡ Clear → lowest (epc_rows v q) ≡ Clear
+  epc_clear : (q : Registers) → lowest (epc_rows u q) ≡ Ok tt → lowest (epc_rows v q) ≡ Ok tt
   epc_clear q clear = clear_when (epc_rows v q) (rw (same.fine, none_out, same.records, same.edition, not_applies (epc_rows u q) Aborted clear))
 
   records_same : (q : Registers) → (performed q v.drive).records ≡ (performed q u.drive).records
   records_same q = records_after q v.drive ∙ rw same.records (sym (records_after q u.drive))
 
-  pub epc_on : (q : Registers) → lowest (epc_rows u q) ≡ Clear → Stands (does (set_features q)) (epc_effect q u)
+  pub epc_on : (q : Registers) → lowest (epc_rows u q) ≡ Ok tt → Stands (does (set_features q)) (epc_effect q u)
   epc_on q clear r =
       itself (set_features q) (epc_effect q u) (epc_effect q v) (λ said. refl) (epc_clear q clear) refl
       (with_drives (performed q u.drive) (performed q v.drive) (records_same q) (λ quiet. (
@@ -220,7 +218,7 @@ module _ (past : List Deed) (u v : Unit) (fine : well_formed u ≡ true) (same :
         count_after q v.drive ∙ sym (count_after q u.drive),
       )))
 
-  aborts_given : (q : Registers) → aborts u.edition q u.drive.records ≡ true → lowest (epc_rows v q) ≡ Given Aborted
+  aborts_given : (q : Registers) → aborts u.edition q u.drive.records ≡ true → lowest (epc_rows v q) ≡ Err Aborted
   aborts_given q ten =
       row_passes _ _ (rw same.fine) ∙ row_passes _ _ (rw none_out)
       ∙ row_gives (aborts v.edition q v.drive.records gives Aborted) [] (rw (same.records, same.edition) ten)
@@ -240,7 +238,7 @@ module _ (past : List Deed) (u v : Unit) (fine : well_formed u ≡ true) (same :
 
   -- ---- the medium
 
-  medium_clear : (host : ℕ) → lowest (medium_rows u host) ≡ Clear → lowest (medium_rows v host) ≡ Clear
+  medium_clear : (host : ℕ) → lowest (medium_rows u host) ≡ Ok tt → lowest (medium_rows v host) ≡ Ok tt
   medium_clear host clear =
       clear_when (medium_rows v host)
       (rw (not_applies (medium_rows u host) BadHost clear, same.fine, none_out, same.stopped, not_applies (medium_rows u host) IsStopped clear))
@@ -252,12 +250,12 @@ module _ (past : List Deed) (u v : Unit) (fine : well_formed u ≡ true) (same :
       let x = used_leaves u.drive in
       (w.0 ∙ same.records ∙ sym x.0, w.1 ∙ sym x.1, w.2 ∙ sym x.2)
 
-  pub reads_on : (host : ℕ) → lowest (medium_rows u host) ≡ Clear → Stands (does (read host)) (read_effect u)
+  pub reads_on : (host : ℕ) → lowest (medium_rows u host) ≡ Ok tt → Stands (does (read host)) (read_effect u)
   reads_on host clear r =
       itself (read host) (read_effect u) (read_effect v) (λ said. refl) (medium_clear host clear) refl
       (with_drives (used u.drive) (used v.drive) used_same.0 (λ quiet. (used_same.1, used_same.2)))
 
-  pub writes_on : (host : ℕ) → lowest (medium_rows u host) ≡ Clear → Stands (does (write host)) (write_effect u)
+  pub writes_on : (host : ℕ) → lowest (medium_rows u host) ≡ Ok tt → Stands (does (write host)) (write_effect u)
   writes_on host clear r = itself (write host) (write_effect u) (write_effect v) (λ said. refl) (medium_clear host clear) refl (λ ok. record {
     fine = ok;
     quiet = same.quiet;
@@ -271,7 +269,7 @@ module _ (past : List Deed) (u v : Unit) (fine : well_formed u ≡ true) (same :
 
   -- ---- resets, which fall where nothing waits
 
-  reset_clear : lowest (reset_rows v) ≡ Clear
+  reset_clear : lowest (reset_rows v) ≡ Ok tt
   reset_clear = clear_when (reset_rows v) (rw same.fine)
 
   pub powers_on : Stands (does power_on) (power_on_effect u)
@@ -309,12 +307,12 @@ module _ (past : List Deed) (u v : Unit) (fine : well_formed u ≡ true) (same :
 
   -- ---- sense and log
 
-  sense_clear : (host : ℕ) (buffer : List ℕ) → lowest (sense_rows u host buffer) ≡ Clear → lowest (sense_rows v host buffer) ≡ Clear
+  sense_clear : (host : ℕ) (buffer : List ℕ) → lowest (sense_rows u host buffer) ≡ Ok tt → lowest (sense_rows v host buffer) ≡ Ok tt
   sense_clear host buffer clear =
       clear_when (sense_rows v host buffer)
       (rw (not_applies (sense_rows u host buffer) BadLength clear, not_applies (sense_rows u host buffer) BadHost clear, same.fine, none_out))
 
-  pub tells_on : (host : ℕ) (buffer : List ℕ) → lowest (sense_rows u host buffer) ≡ Clear → Stands (does (request_sense host buffer)) (sense_effect host u)
+  pub tells_on : (host : ℕ) (buffer : List ℕ) → lowest (sense_rows u host buffer) ≡ Ok tt → Stands (does (request_sense host buffer)) (sense_effect host u)
   tells_on host buffer clear r =
       itself (request_sense host buffer) (sense_effect host u) (sense_effect host v) (λ said. refl) (sense_clear host buffer clear) refl (λ ok. record {
         fine = ok;
@@ -328,22 +326,22 @@ module _ (past : List Deed) (u v : Unit) (fine : well_formed u ≡ true) (same :
       })
 
   -- A log page of this many bytes.
-  page_clear : (due size : ℕ) → lowest (rows_of_page due size (well_formed u)) ≡ Clear → lowest (rows_of_page due size (well_formed v)) ≡ Clear
+  page_clear : (due size : ℕ) → lowest (rows_of_page due size (well_formed u)) ≡ Ok tt → lowest (rows_of_page due size (well_formed v)) ≡ Ok tt
   page_clear due size clear =
       clear_when (rows_of_page due size (well_formed v)) (rw (not_applies (rows_of_page due size (well_formed u)) BadLength clear, same.fine))
 
-  pub logs_on : (buffer : List ℕ) → lowest (log_rows u buffer) ≡ Clear → Stands (does (log_page buffer)) u
+  pub logs_on : (buffer : List ℕ) → lowest (log_rows u buffer) ≡ Ok tt → Stands (does (log_page buffer)) u
   logs_on buffer clear r = itself (log_page buffer) u v (λ said. refl) (page_clear 512 (length buffer) clear) refl (λ ok. same)
 
-  pub transitions_on : (buffer : List ℕ) → lowest (transitions_rows u buffer) ≡ Clear → Stands (does (transitions_page buffer)) u
+  pub transitions_on : (buffer : List ℕ) → lowest (transitions_rows u buffer) ≡ Ok tt → Stands (does (transitions_page buffer)) u
   transitions_on buffer clear r = itself (transitions_page buffer) u v (λ said. refl) (page_clear 52 (length buffer) clear) refl (λ ok. same)
 
-  new_page_clear : (number : ℕ) (buffer : List ℕ) → lowest (new_page_rows u number buffer) ≡ Clear → lowest (new_page_rows v number buffer) ≡ Clear
+  new_page_clear : (number : ℕ) (buffer : List ℕ) → lowest (new_page_rows u number buffer) ≡ Ok tt → lowest (new_page_rows v number buffer) ≡ Ok tt
   new_page_clear number buffer clear =
       let rows = new_page_rows u number buffer in
       clear_when (new_page_rows v number buffer) (rw (not_applies rows BadLength clear, same.fine, same.edition, not_applies rows NoSuchPage clear))
 
-  pub new_page_on : (number : ℕ) (buffer : List ℕ) → lowest (new_page_rows u number buffer) ≡ Clear → Stands (does (new_page number buffer)) u
+  pub new_page_on : (number : ℕ) (buffer : List ℕ) → lowest (new_page_rows u number buffer) ≡ Ok tt → Stands (does (new_page number buffer)) u
   new_page_on number buffer clear r = itself (new_page number buffer) u v (λ said. refl) (new_page_clear number buffer clear) refl (λ ok. same)
 
   -- ---- an operation under way: nothing stands in the serial run, and something waits in the real one

@@ -1,4 +1,5 @@
 -- No write is accepted while a command is out, so a command that is out was sent after every write.
+use Rattle.std.proofs.Common.{Some, None, Option}
 use mathlib.Core.Path.{◌≡◌, refl, sym, ◌∙◌}
 use mathlib.Core.Bool.{false, true≢false, false≢true}
 use mathlib.Core.List.{List, ◌∷◌}
@@ -7,8 +8,6 @@ use lib.ListN.{take}
 use borrow.Author.Tests.{eq-eqb}
 use Rattle.rows.proofs.Choices.{either}
 use Rattle.registers.specs.declared.Registers.{Registers}
-use Rattle.unit.specs.declared.Out.{Out}
-use Rattle.unit.specs.declared.Out.TheVariants.{NoneOut, OutFor}
 use Rattle.requests.specs.declared.Request.{Request}
 use Rattle.unit.specs.declared.Unit.{Unit}
 use Rattle.operations.specs.Operations.{one_more, flushes_of}
@@ -25,22 +24,22 @@ use Rattle.runs.proofs.Slots.{out_same, none_out_for}
 
 -- Among the calls since any write, the command of a host that is out reads as a flush or not just as over the whole past; so a flush that is out was
 -- sent after every write.
-abbrev pub SentSince : List Deed → Out → Type 0
-SentSince past out = (k : ℕ) → out ≡ OutFor k → (i : ℕ) → WroteAgo past i → flush_sent k (take i past) ≡ flush_sent k past
+abbrev pub SentSince : List Deed → Option ℕ → Type 0
+SentSince past out = (k : ℕ) → out ≡ Some k → (i : ℕ) → WroteAgo past i → flush_sent k (take i past) ≡ flush_sent k past
 
 -- A call that is no write and sends nothing.
-since_later : (d : Deed) (past : List Deed) (out : Out) → does_a is_write d ≡ false → ((k : ℕ) (p : List Deed) → flush_sent k (d ∷ p) ≡ flush_sent k p)
+since_later : (d : Deed) (past : List Deed) (out : Option ℕ) → does_a is_write d ≡ false → ((k : ℕ) (p : List Deed) → flush_sent k (d ∷ p) ≡ flush_sent k p)
     → SentSince past out → SentSince (d ∷ past) out
 since_later d past out no_write sends_none since k is-out zero written = absurd (true≢false (sym written ∙ no_write))
 since_later d past out no_write sends_none since k is-out (suc i) written =
     sends_none k (take i past) ∙ since k is-out i written ∙ sym (sends_none k past)
 
-since_sent : (host : ℕ) (q : Registers) (past : List Deed) → SentSince (hands_out host q ∷ past) (OutFor host)
+since_sent : (host : ℕ) (q : Registers) (past : List Deed) → SentSince (hands_out host q ∷ past) (Some host)
 since_sent host q past k is-out zero written = absurd (false≢true written)
 since_sent host q past k is-out (suc i) written = rw (eq-eqb host k (out_same host k is-out))
 
-none_since : (past : List Deed) → SentSince past NoneOut
-none_since past k is-out = none_out_for NoneOut k refl is-out
+none_since : (past : List Deed) → SentSince past None
+none_since past k is-out = none_out_for None k refl is-out
 
 module _ (past : List Deed) (u : Unit) (since : SentSince past u.out) where
   abbrev SinceAfter : Deed → Unit → Type 0

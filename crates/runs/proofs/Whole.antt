@@ -1,5 +1,6 @@
 -- An operation run whole on a record with nothing waiting: it is accepted, each question gets its command and each answer is taken, so what it leaves
 -- is what the last answer leaves. It has one answer, or a good flush's and one more.
+use Rattle.std.proofs.Common.{Ok, Some, None}
 use mathlib.Core.Path.{◌≡◌, refl, sym, ap, ◌∙◌}
 use mathlib.Core.Bool.{Bool, true, false, cond}
 use mathlib.Core.List.{List, [], ◌∷◌}
@@ -7,21 +8,17 @@ use Prim.Native.Nat.{ℕ, ◌<◌}
 use lib.Dec.{eqb, ltb}
 use lib.ListN.{length, set}
 use borrow.Author.Tests.{eqb-false}
-use Rattle.unit.specs.Units.{empty_slot, slot_of, well_formed, with_slot, rested}
+use Rattle.unit.specs.Units.{slot_of, well_formed, with_slot, rested}
 use Rattle.refusals.specs.Refusals.{lowest}
 use Rattle.requests.specs.declared.Stage.TheVariants.{Flushing}
 use Rattle.requests.specs.declared.Request.{Request}
 use Rattle.unit.specs.declared.Slot.TheVariants.{Empty, Waiting}
-use Rattle.unit.specs.declared.HostSlot.{HostSlot}
-use Rattle.unit.specs.declared.Out.TheVariants.{NoneOut}
-use Rattle.refusals.specs.declared.Verdict.TheVariants.{Clear}
 use Rattle.unit.specs.declared.Unit.{Unit}
 use Rattle.cdb.specs.Cdb.{immed, wanted, request_for}
 use Rattle.operations.specs.Operations.{registers_of, due_from, is_flush, flush_counted}
 use Rattle.exchange.specs.Answered.{flushed_well, answered_for}
 use Rattle.bridge.specs.Bridge.{start_stop_rows}
 use Rattle.exchange.specs.Exchange.{next_effect}
-use Rattle.cdb.specs.declared.Wanted.TheVariants.{Wants}
 use Rattle.bridge.specs.declared.StartStopped.{StartStopped}
 use Rattle.exchange.specs.declared.Asked.{Asked}
 use Rattle.requests.specs.declared.Reply.{Reply}
@@ -41,6 +38,7 @@ use Rattle.runs.proofs.Deeds.{deed_at}
 use Rattle.runs.proofs.Slots.{inside, slot_after, Quiet, quiet_out}
 use Rattle.runs.proofs.RunsTo.{RunsTo, runs_nothing, runs_on}
 use Rattle.refusals.specs.declared.Refusal.TheVariants.{BadHost}
+use Rattle.unit.specs.declared.Slot.{Slot}
 
 -- ---- acceptance
 
@@ -48,13 +46,13 @@ use Rattle.refusals.specs.declared.Refusal.TheVariants.{BadHost}
 pub record Admitted (v : Unit) (host : ℕ) (cdb : List ℕ) (q : Request) : Type 0 where
   pub fine : well_formed v ≡ true
   pub quiet : Quiet v
-  pub clear : lowest (start_stop_rows v host cdb) ≡ Clear
-  pub wants : wanted cdb ≡ Wants q.target
+  pub clear : lowest (start_stop_rows v host cdb) ≡ Ok tt
+  pub wants : wanted cdb ≡ Some q.target
   pub immediate : immed cdb ≡ q.immed
 
 -- ---- a question and its answer
 
-module _ (w : Unit) (fine : well_formed w ≡ true) (host : ℕ) (p : Request) (waits : slot_of w.slots host ≡ Waiting p) (none : w.out ≡ NoneOut)
+module _ (w : Unit) (fine : well_formed w ≡ true) (host : ℕ) (p : Request) (waits : slot_of w.slots host ≡ Waiting p) (none : w.out ≡ None)
     (reply : Reply) (x : Replied) (answered : answered_for (next_effect host w) host p reply ≡ x) where
   sends_due : (deed_at w (next host) ≡ hands_out host (registers_of (due_from w.unsaved p))) × (step w (next host) ≡ next_effect host w)
   sends_due =
@@ -86,18 +84,18 @@ module _ (w : Unit) (fine : well_formed w ≡ true) (host : ℕ) (p : Request) (
 pub record Ready (v w : Unit) (host : ℕ) (q p : Request) : Type 0 where
   pub fine : well_formed w ≡ true
   pub waits : slot_of w.slots host ≡ Waiting p
-  pub out : w.out ≡ NoneOut
+  pub out : w.out ≡ None
   pub edition : w.edition ≡ v.edition
   pub records : w.drive.records ≡ v.drive.records
   pub stopped : w.stopped ≡ v.stopped
   pub held : w.held ≡ v.held
-  pub others : (k : ℕ) → slot_of (set w.slots host empty_slot) k ≡ Empty
+  pub others : (k : ℕ) → slot_of (set w.slots host Empty) k ≡ Empty
   pub target : p.target ≡ q.target
   pub immediate : p.immed ≡ q.immed
 
 -- Whatever is put in the slot, once it is emptied nothing waits.
-emptied : (host : ℕ) (l : List HostSlot) → ((k : ℕ) → (k ≡ host → ⊥) → slot_of l k ≡ Empty) → host < length l
-    → (k : ℕ) → slot_of (set l host empty_slot) k ≡ Empty
+emptied : (host : ℕ) (l : List Slot) → ((k : ℕ) → (k ≡ host → ⊥) → slot_of l k ≡ Empty) → host < length l
+    → (k : ℕ) → slot_of (set l host Empty) k ≡ Empty
 emptied host l rest h k = slot_after l host k Empty h ∙ on (eqb host k) refl
   where
     on : (b : Bool) → eqb host k ≡ b → cond b Empty (slot_of l k) ≡ Empty
@@ -108,7 +106,7 @@ module _ (v : Unit) (host : ℕ) (cdb : List ℕ) (q : Request) (a : Admitted v 
   below : ltb 3 host ≡ false
   below = not_applies (start_stop_rows v host cdb) BadHost a.clear
 
-  none_out : v.out ≡ NoneOut
+  none_out : v.out ≡ None
   none_out = quiet_out v a.fine a.quiet
 
   -- The request and the record after acceptance.
@@ -186,7 +184,7 @@ module _ (v : Unit) (host : ℕ) (cdb : List ℕ) (q : Request) (a : Admitted v 
 
   -- With one answer, which ends it.
   pub whole_once : (reply : Reply) (x : Replied) (report : Report) → answered_for (next_effect host begun) host first reply ≡ x
-      → x.answer ≡ Ended report
+      → x.answer ≡ Ok (Ended report)
       → RunsTo v (whole host cdb (reply ∷ []))
       (begins host cdb ∷ hands_out host (registers_of (due_from v.unsaved first)) ∷ ends host reply report ∷ []) x.unit
   whole_once reply x report e over =
@@ -195,7 +193,7 @@ module _ (v : Unit) (host : ℕ) (cdb : List ℕ) (q : Request) (a : Admitted v 
 
   -- With a good flush's answer and one more.
   pub whole_twice : first.stage ≡ Flushing 0 → (reply : Reply) (x : Replied) (report : Report)
-      → answered_for (next_effect host flushed.unit) host (flush_counted first) reply ≡ x → x.answer ≡ Ended report
+      → answered_for (next_effect host flushed.unit) host (flush_counted first) reply ≡ x → x.answer ≡ Ok (Ended report)
       → RunsTo v (whole host cdb (Good ∷ reply ∷ []))
       (begins host cdb
       ∷ hands_out host (registers_of (due_from v.unsaved first))

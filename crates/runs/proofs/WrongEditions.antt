@@ -1,5 +1,6 @@
 -- Wrong editions (document 02, request (vi)): step functions that do as the layer does but for one thing that the request says, each refuted by a
 -- run that is computed.
+use Rattle.std.proofs.Common.{Err}
 use mathlib.Core.Bool.{Bool, true, false, ◌&&◌, cond, true≢false, false≢true}
 use mathlib.Core.Path.{◌≡◌, ap, refl}
 use mathlib.Core.List.{[], ◌∷◌}
@@ -12,7 +13,6 @@ use Rattle.drive.specs.declared.Edition.{Edition}
 use Rattle.drive.specs.declared.Edition.TheVariants.{Draft, Published}
 use Rattle.published.specs.Descriptors.{lacks_page}
 use Rattle.refusals.specs.declared.Refusal.TheVariants.{NoSuchPage}
-use Rattle.refusals.specs.declared.Answer.TheVariants.{Refused}
 use Rattle.unit.specs.Units.{with_edition, with_drive, with_marks}
 use Rattle.unit.specs.declared.Unit.{Unit}
 use Rattle.calls.specs.Calls.{Call, write, power_on, plain, Outcome, outcome, StepFunction}
@@ -54,7 +54,7 @@ forgets u c = cond (is_power_on c) (leaving (with_edition Draft (outcome u c).un
 -- 11 comes before 1 and 3.
 abbrev pub eleven_first : StepFunction
 eleven_first u c =
-    cond (is_new_page c && lacks_page u.edition (describe c).page) (record { said = plain (Refused NoSuchPage); unit = u; buffer = lent c }) (outcome u c)
+    cond (is_new_page c && lacks_page u.edition (describe c).page) (record { said = plain (Err NoSuchPage); unit = u; buffer = lent c }) (outcome u c)
 
 abbrev is_published : Edition → Bool
 is_published Draft = false

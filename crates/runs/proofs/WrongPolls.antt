@@ -1,5 +1,6 @@
 -- Wrong idle counts (document 02, request (vii)): step functions that do as the layer does but for when the idle count starts again, each refuted by a
 -- run that is computed.
+use Rattle.std.proofs.Common.{Some}
 use mathlib.Core.Bool.{not, ◌&&◌, cond, false≢true}
 use mathlib.Core.List.{[], ◌∷◌, ◌++◌}
 use mathlib.Core.Path.{◌≡◌, ap, refl}
@@ -16,7 +17,6 @@ use Rattle.requests.specs.declared.Failure.TheVariants.{CommandSequence}
 use Rattle.requests.specs.declared.Stage.TheVariants.{Flushing}
 use Rattle.requests.specs.declared.Target.TheVariants.{Stop}
 use Rattle.unit.specs.Units.{held_of, with_held, rested}
-use Rattle.unit.specs.declared.Held.TheVariants.{Holds}
 use Rattle.unit.specs.declared.Unit.{Unit}
 use Rattle.calls.specs.Calls.{tick, read, request_sense, outcome, StepFunction}
 use Rattle.calls.specs.Described.{same_kind, is_sense, is_sense_of}
@@ -78,7 +78,7 @@ third_restarts_leaves_trace holds =
 pub refused_restarts_leaves_trace : PollsLeaveNoTrace refused_restarts → ⊥
 unfolding computed
 refused_restarts_leaves_trace holds =
-    let u = with_held 0 (Holds CommandSequence) (idled 7 fresh) in
+    let u = with_held 0 (Some CommandSequence) (idled 7 fresh) in
     let shown : ◌≡◌ {A = ℕ} 0 7 =
     ap (λ (v : Unit). v.drive.idle.0) (holds u (poll 0 (replicate 17 0) ∷ []) (λ e. absurd (false≢true (ap is_clear e)), tt)).1 in
     omega arith
@@ -87,7 +87,7 @@ refused_restarts_leaves_trace holds =
 pub told_restarts_fails : IdleKept told_restarts → ⊥
 unfolding computed
 told_restarts_fails holds =
-    let u = with_held 0 (Holds CommandSequence) (idled 7 fresh) in
+    let u = with_held 0 (Some CommandSequence) (idled 7 fresh) in
     let shown : ◌≡◌ {A = ℕ} 0 7 = ap (λ (n : Tenths). n.0) (holds u (request_sense 0 (replicate 18 0)) refl refl) in omega arith
 
 -- A read leaves the count at 7.

@@ -1,5 +1,6 @@
 -- Wrong programs, as step functions: those of document 01's "Holding the wording to account" and "Slips seen in other boards", in its words, and others.
 -- Each does as the layer does but for its own slip.
+use Rattle.std.proofs.Common.{Ok, Err, Some, None, Option, Result}
 use mathlib.Core.Bool.{Bool, true, false, not, ◌&&◌, ◌||◌, cond}
 use mathlib.Core.List.{List}
 use Prim.Native.Nat.{ℕ, ◌+◌, ◌-◌}
@@ -13,33 +14,27 @@ use Rattle.drive.specs.Drives.{drive_of, with_settings, with_idle, entered, time
 use Rattle.drive.specs.declared.Record.{Record}
 use Rattle.drive.specs.declared.Drive.{Drive}
 use Rattle.registers.specs.declared.Registers.{Registers}
-use Rattle.unit.specs.Units.{empty_slot, none_held, slot_of, is_out, unit_of, with_drive, with_marks, with_out}
+use Rattle.unit.specs.Units.{slot_of, is_out, unit_of, with_drive, with_marks, with_out}
 use Rattle.refusals.specs.declared.Refusal.{Refusal}
 use Rattle.refusals.specs.declared.Refusal.TheVariants.{BadRecord, OwnWaiting}
-use Rattle.refusals.specs.declared.SenseDue.{SenseDue}
-use Rattle.refusals.specs.declared.SenseDue.TheVariants.{NoSense, WithSense}
 use Rattle.unit.specs.declared.Slot.{Slot}
 use Rattle.unit.specs.declared.Slot.TheVariants.{Empty, Waiting}
-use Rattle.unit.specs.declared.Held.{Held}
-use Rattle.unit.specs.declared.Held.TheVariants.{Nothing, Holds}
-use Rattle.unit.specs.declared.Out.{Out}
-use Rattle.unit.specs.declared.Out.TheVariants.{NoneOut, OutFor}
-use Rattle.refusals.specs.declared.Answer.TheVariants.{Refused}
 use Rattle.unit.specs.declared.Unit.{Unit}
 use Rattle.operations.specs.Operations.{registers_of, flushes_of, due_from}
 use Rattle.operations.specs.declared.Due.TheVariants.{Flush, StandbyImmediate}
-use Rattle.operations.specs.declared.Acceptance.TheVariants.{GoodDue, Pending, NotAccepted}
-use Rattle.operations.specs.declared.Next.TheVariants.{Send, NotSent}
+use Rattle.operations.specs.declared.Acceptance.TheVariants.{GoodDue, Pending}
 use Rattle.requests.specs.declared.Reply.TheVariants.{Good}
 use Rattle.operations.specs.declared.Status.TheVariants.{GoodStatus}
 use Rattle.operations.specs.declared.Report.{Report}
 use Rattle.operations.specs.declared.Progress.{Progress}
-use Rattle.operations.specs.declared.Progress.TheVariants.{More, Ended, NotTaken}
+use Rattle.operations.specs.declared.Progress.TheVariants.{More, Ended}
 use Rattle.calls.specs.Calls.{Call, tick, next, answer, Said, plain, accepted, sent, progressed, Outcome, outcome, StepFunction}
 use Rattle.calls.specs.Described.{same_kind, is_write, reach_of, of_host, is_sense, lent}
 use Rattle.calls.specs.Examples.{off}
 use Rattle.calls.specs.Table.{uses_medium, verdict_in, is_clear}
 use Rattle.runs.specs.Serial.{nothing_waits}
+use Rattle.senses.specs.declared.Sense.{Sense}
+use Rattle.requests.specs.declared.Failure.{Failure}
 
 -- ---- an outcome with one thing changed
 
@@ -116,15 +111,15 @@ lifts = entering (λ d n. or_stays (timers_ask (map_at (only_at n) 0 d.records) 
 -- One that takes a write while a command is out, as if none were: the flush that is out may not cover it.
 abbrev pub writes_through : StepFunction
 writes_through u c =
-    let o = outcome (with_out NoneOut u) c in
+    let o = outcome (with_out None u) c in
     cond (is_write c) (leaving (with_out u.out o.unit) o) (outcome u c)
 
 -- Another command is handed out for one with this code.
 abbrev pub handed_for : ℕ → Registers → Said → Said
 handed_for code other (plain a) = plain a
 handed_for code other (accepted a) = accepted a
-handed_for code other (sent (Send q)) = sent (Send (cond (eqb q.command code) other q))
-handed_for code other (sent (NotSent r)) = sent (NotSent r)
+handed_for code other (sent (Ok q)) = sent (Ok (cond (eqb q.command code) other q))
+handed_for code other (sent (Err r)) = sent (Err r)
 handed_for code other (progressed p) = progressed p
 
 -- One that parks the unit on a start: STANDBY IMMEDIATE is handed out for the verify.
@@ -151,18 +146,18 @@ changes_nothing u c = leaving u (outcome u c)
 
 -- ---- failures
 
-abbrev pub is_due : SenseDue → Bool
-is_due NoSense = false
-is_due (WithSense s) = true
+abbrev pub is_due : Option Sense → Bool
+is_due None = false
+is_due (Some s) = true
 
 -- The operation is over, and the end report has a failure's sense.
 abbrev pub is_failure : Said → Bool
 is_failure (plain a) = false
 is_failure (accepted a) = false
 is_failure (sent n) = false
-is_failure (progressed More) = false
-is_failure (progressed (Ended report)) = is_due report.sense
-is_failure (progressed (NotTaken r)) = false
+is_failure (progressed (Ok More)) = false
+is_failure (progressed (Ok (Ended report))) = is_due report.sense
+is_failure (progressed (Err r)) = false
 
 -- The command due from what waits in the slot has this code,
 abbrev pub due_has_code : ℕ → Bool → Slot → Bool
@@ -170,9 +165,9 @@ due_has_code code unsaved Empty = false
 due_has_code code unsaved (Waiting q) = eqb (registers_of (due_from unsaved q)).command code
 
 -- and so has the command that is out,
-abbrev pub out_has_code : ℕ → Unit → Out → Bool
-out_has_code code u NoneOut = false
-out_has_code code u (OutFor host) = due_has_code code u.unsaved (slot_of u.slots host)
+abbrev pub out_has_code : ℕ → Unit → Option ℕ → Bool
+out_has_code code u None = false
+out_has_code code u (Some host) = due_has_code code u.unsaved (slot_of u.slots host)
 
 -- by whose answer the operation fails.
 abbrev pub fails_on : ℕ → Unit → Call → Bool
@@ -229,10 +224,10 @@ reports_twice = on_failure (λ before u. unit_of u.edition u.drive u.stopped u.u
 
 -- A refusal in the words of the call's own answer; record and buffer as they came.
 abbrev pub refusing : Refusal → Said → Said
-refusing r (plain a) = plain (Refused r)
-refusing r (accepted a) = accepted (NotAccepted r)
-refusing r (sent n) = sent (NotSent r)
-refusing r (progressed p) = progressed (NotTaken r)
+refusing r (plain a) = plain (Err r)
+refusing r (accepted a) = accepted (Err r)
+refusing r (sent n) = sent (Err r)
+refusing r (progressed p) = progressed (Err r)
 
 abbrev pub refused : Refusal → StepFunction
 refused r u c = record { said = refusing r (outcome u c).said; unit = u; buffer = lent c }
@@ -244,9 +239,9 @@ refuses_all = refused BadRecord
 -- START STOP UNIT was accepted.
 abbrev pub is_acceptance : Said → Bool
 is_acceptance (plain a) = false
-is_acceptance (accepted GoodDue) = true
-is_acceptance (accepted Pending) = true
-is_acceptance (accepted (NotAccepted r)) = false
+is_acceptance (accepted (Ok GoodDue)) = true
+is_acceptance (accepted (Ok Pending)) = true
+is_acceptance (accepted (Err r)) = false
 is_acceptance (sent n) = false
 is_acceptance (progressed p) = false
 
@@ -257,36 +252,36 @@ one_for_all u c = cond (is_acceptance (outcome u c).said && not (nothing_waits u
 -- ---- what is told
 
 -- Something else is said where an end report is due.
-abbrev pub at_end : (Report → Progress) → Said → Said
+abbrev pub at_end : (Report → Result Progress Refusal) → Said → Said
 at_end say (plain a) = plain a
 at_end say (accepted a) = accepted a
 at_end say (sent n) = sent n
-at_end say (progressed More) = progressed More
-at_end say (progressed (Ended report)) = progressed (say report)
-at_end say (progressed (NotTaken r)) = progressed (NotTaken r)
+at_end say (progressed (Ok More)) = progressed (Ok More)
+at_end say (progressed (Ok (Ended report))) = progressed (say report)
+at_end say (progressed (Err r)) = progressed (Err r)
 
-abbrev pub reporting : (Report → Progress) → StepFunction
+abbrev pub reporting : (Report → Result Progress Refusal) → StepFunction
 reporting say u c = saying (at_end say (outcome u c).said) (outcome u c)
 
 -- "one that invents the flush count": an end report always says 1.
 abbrev pub invents_count : StepFunction
-invents_count = reporting (λ report. Ended (record { status = report.status; sense = report.sense; flushes = 1 }))
+invents_count = reporting (λ report. Ok (Ended (record { status = report.status; sense = report.sense; flushes = 1 })))
 
 -- More is to come.
 abbrev pub is_more : Said → Bool
 is_more (plain a) = false
 is_more (accepted a) = false
 is_more (sent n) = false
-is_more (progressed More) = true
-is_more (progressed (Ended report)) = false
-is_more (progressed (NotTaken r)) = false
+is_more (progressed (Ok More)) = true
+is_more (progressed (Ok (Ended report))) = false
+is_more (progressed (Err r)) = false
 
 -- One that takes an operation for done at its good flush.
 abbrev pub ends_at_flush : StepFunction
 ends_at_flush u c =
     let v = (outcome u c).unit in
-    let over = unit_of v.edition v.drive v.stopped v.unsaved (replicate 4 empty_slot) v.held v.out in
-    let said = progressed (Ended (record { status = GoodStatus; sense = NoSense; flushes = 1 })) in
+    let over = unit_of v.edition v.drive v.stopped v.unsaved (replicate 4 Empty) v.held v.out in
+    let said = progressed (Ok (Ended (record { status = GoodStatus; sense = None; flushes = 1 }))) in
     cond (is_more (outcome u c).said) (saying said (leaving over (outcome u c))) (outcome u c)
 
 -- One that does not count a good flush.
@@ -300,9 +295,9 @@ uncounts u c =
 -- One that owes every status until the end.
 abbrev pub pending : Said → Said
 pending (plain a) = plain a
-pending (accepted GoodDue) = accepted Pending
-pending (accepted Pending) = accepted Pending
-pending (accepted (NotAccepted r)) = accepted (NotAccepted r)
+pending (accepted (Ok GoodDue)) = accepted (Ok Pending)
+pending (accepted (Ok Pending)) = accepted (Ok Pending)
+pending (accepted (Err r)) = accepted (Err r)
 pending (sent n) = sent n
 pending (progressed p) = progressed p
 
@@ -311,20 +306,20 @@ owes_status u c = saying (pending (outcome u c).said) (outcome u c)
 
 -- One that swallows end reports: it says that more is to come where an operation is over.
 abbrev pub swallows : StepFunction
-swallows = reporting (λ report. More)
+swallows = reporting (λ report. (Ok More))
 
 -- One that leaves the sense out of a failure's end report.
 abbrev pub mutes : StepFunction
-mutes = reporting (λ report. Ended (record { status = report.status; sense = NoSense; flushes = report.flushes }))
+mutes = reporting (λ report. Ok (Ended (record { status = report.status; sense = None; flushes = report.flushes })))
 
 -- A sense is held.
-abbrev pub is_holding : Held → Bool
-is_holding Nothing = false
-is_holding (Holds f) = true
+abbrev pub is_holding : Option Failure → Bool
+is_holding None = false
+is_holding (Some f) = true
 
 -- One that drops every host's held sense once any host asks for its own.
 abbrev pub none_held_in : Unit → Unit
-none_held_in u = unit_of u.edition u.drive u.stopped u.unsaved u.slots (replicate 4 none_held) u.out
+none_held_in u = unit_of u.edition u.drive u.stopped u.unsaved u.slots (replicate 4 None) u.out
 
 abbrev pub drops_all_held : StepFunction
 drops_all_held = on_accepted (λ u. is_sense) (λ before. none_held_in)

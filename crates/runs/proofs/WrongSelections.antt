@@ -1,5 +1,6 @@
 -- Wrong selections (document 02, request (iv)): step functions that do as the layer does but for a subcommand with Count FFh, each refuted by a run that is
 -- computed.
+use Rattle.std.proofs.Common.{Ok}
 use mathlib.Core.Bool.{Bool, true, false, not, ◌&&◌, cond, true≢false, false≢true}
 use mathlib.Core.Path.{ap, refl}
 use mathlib.Core.List.{List, [], ◌∷◌}
@@ -14,7 +15,6 @@ use Rattle.registers.specs.Commands.{named}
 use Rattle.registers.specs.declared.Registers.{Registers}
 use Rattle.registers.specs.declared.Named.TheVariants.{Every}
 use Rattle.epc.specs.Epc.{sub_of, save, selects, is_unknown, is_go_to, is_every, reserved_in_lba, changed}
-use Rattle.refusals.specs.declared.Answer.TheVariants.{Done}
 use Rattle.refusals.specs.declared.Refusal.TheVariants.{Aborted}
 use Rattle.unit.specs.Units.{is_out, well_formed, rested, with_drive}
 use Rattle.unit.specs.declared.Unit.{Unit}
@@ -80,7 +80,7 @@ passes_over u c =
 
 -- One that says that it is done where this test holds of record and LBA.
 abbrev takes_for : (Unit → ℕ → Bool) → StepFunction
-takes_for test u c = cond (is_right u c && test u (lba_of c)) (saying (plain Done) (outcome u c)) (outcome u c)
+takes_for test u c = cond (is_right u c && test u (lba_of c)) (saying (plain (Ok tt)) (outcome u c)) (outcome u c)
 
 -- It accepts FFh where none is changeable,
 abbrev pub accepts_none : StepFunction

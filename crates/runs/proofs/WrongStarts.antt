@@ -1,5 +1,6 @@
 -- Wrong starts (document 02, request (ii)): step functions that do as the layer does but for a start whose verify is answered bad, each refuted by a run
 -- that is computed.
+use Rattle.std.proofs.Common.{Some, None, Option}
 use mathlib.Core.Bool.{Bool, true, false, cond, false≢true, true≢false}
 use mathlib.Core.Path.{◌≡◌, ap, refl}
 use mathlib.Core.List.{List, [], ◌∷◌}
@@ -10,18 +11,12 @@ use Rattle.conditions.specs.Conditions.{depth}
 use Rattle.conditions.specs.declared.Condition.TheVariants.{StandbyZ}
 use Rattle.conditions.specs.declared.Cause.TheVariants.{Command}
 use Rattle.conditions.specs.declared.Power.TheVariants.{Low}
-use Rattle.refusals.specs.declared.SenseDue.{SenseDue}
-use Rattle.refusals.specs.declared.SenseDue.TheVariants.{NoSense, WithSense}
 use Rattle.operations.specs.declared.Status.{Status}
 use Rattle.operations.specs.declared.Status.TheVariants.{NoStatus, GoodStatus, CheckCondition}
 use Rattle.requests.specs.Requests.{failure_sense}
 use Rattle.requests.specs.declared.Reply.TheVariants.{Good, Bad}
 use Rattle.requests.specs.declared.Target.TheVariants.{Stop}
 use Rattle.unit.specs.Units.{slot_of, held_of, with_slot}
-use Rattle.unit.specs.declared.Held.{Held}
-use Rattle.unit.specs.declared.Held.TheVariants.{Nothing, Holds}
-use Rattle.unit.specs.declared.Out.{Out}
-use Rattle.unit.specs.declared.Out.TheVariants.{NoneOut, OutFor}
 use Rattle.unit.specs.declared.Slot.{Slot}
 use Rattle.unit.specs.declared.Slot.TheVariants.{Empty, Waiting}
 use Rattle.unit.specs.declared.Unit.{Unit}
@@ -32,6 +27,8 @@ use Rattle.runs.specs.Serial.{Compared, Demand3}
 use Rattle.runs.proofs.Computed.{computed}
 use Rattle.runs.proofs.Morning.{start_immediate, to_active}
 use Rattle.runs.proofs.WrongPrograms.{fails_on, on_failure_of, power_kept, mark_cleared, held_kept, is_due}
+use Rattle.senses.specs.declared.Sense.{Sense}
+use Rattle.requests.specs.declared.Failure.{Failure}
 
 -- ---- the wrong programs
 
@@ -39,9 +36,9 @@ use Rattle.runs.proofs.WrongPrograms.{fails_on, on_failure_of, power_kept, mark_
 abbrev verify : ℕ
 verify = 0x40
 
-abbrev host_out : Out → ℕ
-host_out NoneOut = 0
-host_out (OutFor host) = host
+abbrev host_out : Option ℕ → ℕ
+host_out None = 0
+host_out (Some host) = host
 
 -- GOOD all the same, as before the request: a bad verify is taken for a good one.
 abbrev pub good_anyway : StepFunction
@@ -80,13 +77,13 @@ abbrev bad_start : List Call
 bad_start = start_stop 0 start_immediate ∷ next 0 ∷ answer 0 Bad ∷ []
 
 -- The sense keys that tell the failures apart; 0 where there is none.
-abbrev key_due : SenseDue → ℕ
-key_due NoSense = 0
-key_due (WithSense s) = s.key
+abbrev key_due : Option Sense → ℕ
+key_due None = 0
+key_due (Some s) = s.key
 
-abbrev key_held : Held → ℕ
-key_held Nothing = 0
-key_held (Holds f) = (failure_sense f).key
+abbrev key_held : Option Failure → ℕ
+key_held None = 0
+key_held (Some f) = (failure_sense f).key
 
 abbrev key_compared : Compared → ℕ
 key_compared k = key_held (held_of k.held 0)

@@ -1,5 +1,6 @@
 -- Each wrong program is refuted by a run that is computed: the predicate it should fail is taken at that run, and one part of what it says there
 -- is false. Where demand 3 does not see a wrong program, that is shown on a run, and of the one that refuses all on every run.
+use Rattle.std.proofs.Common.{Ok, Err, Some, None, Option}
 use mathlib.Core.Bool.{Bool, true, false, not, ◌&&◌, true≢false, false≢true}
 use mathlib.Core.Path.{◌≡◌, refl, sym, ap, ◌∙◌}
 use mathlib.Core.List.{List, [], ◌∷◌, ◌++◌}
@@ -16,21 +17,17 @@ use Rattle.drive.specs.declared.Edition.TheVariants.{Draft}
 use Rattle.drive.specs.declared.Made.{Made}
 use Rattle.conditions.specs.declared.Power.TheVariants.{Active, Low}
 use Rattle.registers.specs.declared.Registers.{Registers}
-use Rattle.unit.specs.Units.{none_held, is_waiting}
+use Rattle.unit.specs.Units.{is_waiting}
 use Rattle.engine.specs.Engine.{manufacture_outcome}
 use Rattle.refusals.specs.declared.Refusal.{Refusal}
 use Rattle.refusals.specs.declared.Refusal.TheVariants.{BadRecord, OwnWaiting, IsStopped}
-use Rattle.refusals.specs.declared.Verdict.TheVariants.{Given}
 use Rattle.unit.specs.declared.Unit.{Unit}
 use Rattle.requests.specs.declared.Target.{Target}
 use Rattle.requests.specs.declared.Target.TheVariants.{Stop, Start, GoTo}
 use Rattle.operations.specs.Operations.{registers_of, last_of}
 use Rattle.operations.specs.declared.Due.TheVariants.{Flush, StandbyImmediate}
-use Rattle.cdb.specs.declared.Wanted.{Wanted}
-use Rattle.cdb.specs.declared.Wanted.TheVariants.{Wants, Unlisted}
 use Rattle.cdb.specs.Cdb.{wanted}
-use Rattle.operations.specs.declared.Acceptance.TheVariants.{GoodDue, Pending, NotAccepted}
-use Rattle.operations.specs.declared.Next.TheVariants.{Send, NotSent}
+use Rattle.operations.specs.declared.Acceptance.TheVariants.{GoodDue, Pending}
 use Rattle.requests.specs.declared.Reply.TheVariants.{Good, Bad}
 use Rattle.calls.specs.Calls.{Call, tick, read, write, start_stop, next, answer, request_sense, Said, plain, accepted, sent, progressed, Outcome, StepFunction, outcome, run_by, history_by, run}
 use Rattle.calls.specs.Examples.{*d, *e, *g19, *g20, *g49, *g50, *h, *l, *m, off, makes, fresh, idled, quiet, epc_call, Examples}
@@ -60,7 +57,7 @@ parked = record {
   idle = record { 0 = 0 };
   stopped = true;
   unsaved = false;
-  held = replicate 4 none_held;
+  held = replicate 4 None;
 }
 
 -- Demand 3 on one run from the new unit: what it takes for granted of the run holds, and the real and the serial run both leave the parked unit.
@@ -76,8 +73,8 @@ Agrees by cs =
 abbrev command_in : Said → ℕ
 command_in (plain a) = 0
 command_in (accepted a) = 0
-command_in (sent (Send q)) = q.command
-command_in (sent (NotSent r)) = 0
+command_in (sent (Ok q)) = q.command
+command_in (sent (Err r)) = 0
 command_in (progressed p) = 0
 
 -- Where E7h is due again, E0h is sent.
@@ -172,17 +169,17 @@ abbrev start_cdb : List ℕ
 start_cdb = 0x1B ∷ 0 ∷ 0 ∷ 0 ∷ 1 ∷ 0 ∷ []
 
 -- The command is no flush that the CDB asks for, and not the last one of any target that it asks for.
-not_asked : (cdb : List ℕ) (q : Registers) → asks_flush cdb ≡ false → ((t : Target) → wanted cdb ≡ Wants t → q.command ≡ (registers_of (last_of t)).command → ⊥)
+not_asked : (cdb : List ℕ) (q : Registers) → asks_flush cdb ≡ false → ((t : Target) → wanted cdb ≡ Some t → q.command ≡ (registers_of (last_of t)).command → ⊥)
     → AskedFor cdb q → ⊥
 not_asked cdb q none other (inl flush) = true≢false (sym flush.0 ∙ none)
 not_asked cdb q none other (inr (t, wants, last)) = other t wants (ap (λ (r : Registers). r.command) last)
 
 -- What a CDB asks for, as a number.
-abbrev asked_as : Wanted → ℕ
-asked_as Unlisted = 0
-asked_as (Wants Stop) = 1
-asked_as (Wants Start) = 2
-asked_as (Wants (GoTo c)) = 3
+abbrev asked_as : Option Target → ℕ
+asked_as None = 0
+asked_as (Some Stop) = 1
+asked_as (Some Start) = 2
+asked_as (Some (GoTo c)) = 3
 
 -- E0h is not what a start asks for,
 pub start_parks_fails_commands : CommandsSent start_parks → ⊥
@@ -190,7 +187,7 @@ unfolding computed
 start_parks_fails_commands holds =
     not_asked start_cdb (registers_of StandbyImmediate) refl other (holds fresh (start_stop 0 start_cdb ∷ []) 0 _ refl refl refl)
   where
-    other : (t : Target) → wanted start_cdb ≡ Wants t → 0xE0 ≡ (registers_of (last_of t)).command → ⊥
+    other : (t : Target) → wanted start_cdb ≡ Some t → 0xE0 ≡ (registers_of (last_of t)).command → ⊥
     other Stop w e = let shown : ◌≡◌ {A = ℕ} 2 1 = ap asked_as w in omega arith
     other Start w e = omega (arith, e)
     other (GoTo c) w e = let shown : ◌≡◌ {A = ℕ} 2 3 = ap asked_as w in omega arith
@@ -204,7 +201,7 @@ unfolding computed
 flushes_anyway_fails_commands holds =
     not_asked stop_straight (registers_of Flush) refl other (holds fresh (start_stop 0 stop_straight ∷ []) 0 _ refl refl refl)
   where
-    other : (t : Target) → wanted stop_straight ≡ Wants t → 0xE7 ≡ (registers_of (last_of t)).command → ⊥
+    other : (t : Target) → wanted stop_straight ≡ Some t → 0xE7 ≡ (registers_of (last_of t)).command → ⊥
     other Stop w e = omega (arith, e)
     other Start w e = omega (arith, e)
     other (GoTo c) w e = omega (arith, e)
@@ -304,7 +301,7 @@ works_stopped_fails_numbers holds =
     true≢false (ap is_clear ((holds u (read 0) IsStopped).1 ((numbers_given u (read 0) IsStopped).0 refl)))
 
 -- Demand 3 drops every refused call, so on no run does it see this program: the serial list is empty, and the record stays.
-refusal_said : (r : Refusal) (said : Said) → verdict_in (refusing r said) ≡ Given r
+refusal_said : (r : Refusal) (said : Said) → verdict_in (refusing r said) ≡ Err r
 refusal_said r (plain a) = refl
 refusal_said r (accepted a) = refl
 refusal_said r (sent n) = refl
@@ -403,9 +400,9 @@ mutes_fails_report holds =
 -- or the acceptance does not say GOOD,
 abbrev is_good_due : Said → Bool
 is_good_due (plain a) = false
-is_good_due (accepted GoodDue) = true
-is_good_due (accepted Pending) = false
-is_good_due (accepted (NotAccepted r)) = false
+is_good_due (accepted (Ok GoodDue)) = true
+is_good_due (accepted (Ok Pending)) = false
+is_good_due (accepted (Err r)) = false
 is_good_due (sent n) = false
 is_good_due (progressed p) = false
 

@@ -1,16 +1,14 @@
 -- What each call of a history came to, as far as a run is concerned: the call with what it said, and nothing of the record.
-use Rattle.std.specs.Prelude.{Bool, false, cond, List, map, ℕ}
+use Rattle.std.specs.Prelude.{Bool, false, cond, List, map, ℕ, Ok, Err}
 use Rattle.registers.specs.declared.Registers.{Registers}
 use Rattle.refusals.specs.Refusals.{is_same}
 use Rattle.refusals.specs.declared.Refusal.TheVariants.{Aborted}
-use Rattle.refusals.specs.declared.Verdict.{Verdict}
-use Rattle.refusals.specs.declared.Verdict.TheVariants.{Clear, Given}
-use Rattle.operations.specs.declared.Next.TheVariants.{Send, NotSent}
-use Rattle.operations.specs.declared.Progress.TheVariants.{More, Ended, NotTaken}
+use Rattle.operations.specs.declared.Progress.TheVariants.{More, Ended}
 use Rattle.requests.specs.declared.Reply.{Reply}
 use Rattle.operations.specs.declared.Report.{Report}
 use Rattle.calls.specs.Calls.{Call, set_features, tick, read, write, power_on, hard_reset, soft_reset, start_stop, next, answer, request_sense, log_page, transitions_page, new_page, Said, plain, accepted, sent, progressed, Event}
 use Rattle.calls.specs.Table.{verdict_in}
+use Rattle.refusals.specs.Refusals.{Verdict}
 
 pub data Deed : Type 0 where
   -- a host's START STOP UNIT was accepted, with this CDB
@@ -95,16 +93,16 @@ does_a test = if_does test false
 
 -- START STOP UNIT, by the verdict on it.
 abbrev pub beginning : ℕ → List ℕ → Verdict → Deed
-beginning host cdb Clear = begins host cdb
-beginning host cdb (Given r) = was_refused (start_stop host cdb)
+beginning host cdb (Ok _) = begins host cdb
+beginning host cdb (Err r) = was_refused (start_stop host cdb)
 
 -- A host's question for its next command, by what it was told. What is no answer of the call's own kind, which only a wrong program says, counts as a
 -- refusal.
 abbrev pub sending : ℕ → Said → Deed
 sending host (plain a) = was_refused (next host)
 sending host (accepted a) = was_refused (next host)
-sending host (sent (Send q)) = hands_out host q
-sending host (sent (NotSent r)) = was_refused (next host)
+sending host (sent (Ok q)) = hands_out host q
+sending host (sent (Err r)) = was_refused (next host)
 sending host (progressed p) = was_refused (next host)
 
 -- The drive's answer, by what came of it.
@@ -112,14 +110,14 @@ abbrev pub answering : ℕ → Reply → Said → Deed
 answering host reply (plain a) = was_refused (answer host reply)
 answering host reply (accepted a) = was_refused (answer host reply)
 answering host reply (sent n) = was_refused (answer host reply)
-answering host reply (progressed More) = goes_on host reply
-answering host reply (progressed (Ended report)) = ends host reply report
-answering host reply (progressed (NotTaken r)) = was_refused (answer host reply)
+answering host reply (progressed (Ok More)) = goes_on host reply
+answering host reply (progressed (Ok (Ended report))) = ends host reply report
+answering host reply (progressed (Err r)) = was_refused (answer host reply)
 
 -- Any other call, by the verdict on it.
 abbrev pub another : Call → Verdict → Deed
-another c Clear = does c
-another c (Given r) = cond (is_same r Aborted) (was_aborted c) (was_refused c)
+another c (Ok _) = does c
+another c (Err r) = cond (is_same r Aborted) (was_aborted c) (was_refused c)
 
 abbrev pub deed_of : Call → Said → Deed
 deed_of (set_features q) said = another (set_features q) (verdict_in said)

@@ -1,8 +1,6 @@
 -- Document 02, request (vii), "Polling keeps our disks awake.": a run to which REQUEST SENSE calls are added, beside the run without them.
-use Rattle.std.specs.Prelude.{◌≡◌, List, [], ◌∷◌, map, ℕ}
-use Rattle.refusals.specs.declared.Verdict.TheVariants.{Clear}
+use Rattle.std.specs.Prelude.{◌≡◌, List, [], ◌∷◌, map, ℕ, Ok, None}
 use Rattle.unit.specs.Units.{held_of}
-use Rattle.unit.specs.declared.Held.TheVariants.{Nothing}
 use Rattle.unit.specs.declared.Unit.{Unit}
 use Rattle.calls.specs.Calls.{Call, request_sense, StepFunction, Event, run_by, history_by}
 use Rattle.calls.specs.Table.{verdict_in}
@@ -43,7 +41,7 @@ FindNothing by u [] = Prim.Unit {0}
 FindNothing by u (own c ∷ ws) = FindNothing by (by u c).unit ws
 FindNothing by u (poll host buffer ∷ ws) =
     let o = by u (request_sense host buffer) in
-    (verdict_in o.said ≡ Clear → held_of u.held host ≡ Nothing) × FindNothing by o.unit ws
+    (verdict_in o.said ≡ Ok tt → held_of u.held host ≡ None) × FindNothing by o.unit ws
 
 -- A monitor that polls does not keep a disk awake: the record after every other call, every other answer and every other buffer are the same with the
 -- polls and without them, and so is the record at the end. (A poll that tells a held sense leaves the idle count too: Idle · IdleKept.)

@@ -1,5 +1,5 @@
 -- No answer lost: what becomes of an accepted START STOP UNIT, and of a failure that is held. Told by the deeds that follow it, first first.
-use Rattle.std.specs.Prelude.{Bool, true, false, not, ◌&&◌, ◌||◌, cond, ◌≡◌, List, [], ◌∷◌, ℕ, suc, ◌+◌, eqb}
+use Rattle.std.specs.Prelude.{Bool, true, false, not, ◌&&◌, ◌||◌, cond, ◌≡◌, List, [], ◌∷◌, ℕ, suc, ◌+◌, eqb, Ok, Some, None, Option}
 use Rattle.rows.specs.Rows.{every_at}
 use Rattle.senses.specs.Senses.{sense_bytes}
 use Rattle.senses.specs.declared.Sense.{Sense}
@@ -7,14 +7,9 @@ use Rattle.unit.specs.Units.{slot_of, held_of, well_formed}
 use Rattle.requests.specs.declared.Request.{Request}
 use Rattle.unit.specs.declared.Slot.{Slot}
 use Rattle.unit.specs.declared.Slot.TheVariants.{Waiting}
-use Rattle.unit.specs.declared.Held.TheVariants.{Nothing}
-use Rattle.refusals.specs.declared.SenseDue.{SenseDue}
-use Rattle.refusals.specs.declared.SenseDue.TheVariants.{NoSense, WithSense}
 use Rattle.unit.specs.declared.Unit.{Unit}
 use Rattle.cdb.specs.Cdb.{immed, wanted}
 use Rattle.operations.specs.Operations.{is_good}
-use Rattle.cdb.specs.declared.Wanted.{Wanted}
-use Rattle.cdb.specs.declared.Wanted.TheVariants.{Wants, Unlisted}
 use Rattle.operations.specs.declared.Acceptance.TheVariants.{GoodDue, Pending}
 use Rattle.requests.specs.declared.Reply.{Reply}
 use Rattle.requests.specs.declared.Reply.TheVariants.{Bad}
@@ -25,6 +20,7 @@ use Rattle.operations.specs.declared.Status.TheVariants.{NoStatus, GoodStatus, C
 use Rattle.calls.specs.Calls.{Call, start_stop, answer, request_sense, Said, accepted, StepFunction, run_by, history_by}
 use Rattle.calls.specs.Described.{is_reset, is_sense_of}
 use Rattle.runs.specs.Deeds.{Deed, begins, ends, does, if_begins, if_ends, does_a, deed_of, deeds}
+use Rattle.requests.specs.declared.Target.{Target}
 
 -- ---- an accepted START STOP UNIT of host k
 
@@ -66,9 +62,9 @@ fates k ds = end_reports k ds + one_if (taken_by_reset k ds) + one_if (still_ope
 -- ---- a held failure of host k
 
 -- A sense in an end report with no status: with IMMED 1 "a failure is held as the host's deferred sense".
-abbrev pub is_deferred : Status → SenseDue → Bool
-is_deferred NoStatus NoSense = false
-is_deferred NoStatus (WithSense s) = true
+abbrev pub is_deferred : Status → Option Sense → Bool
+is_deferred NoStatus None = false
+is_deferred NoStatus (Some s) = true
 is_deferred GoodStatus due = false
 is_deferred CheckCondition due = false
 
@@ -95,7 +91,7 @@ unit_after by u c cs = run_by by (by u c).unit cs
 
 -- In the slot waits what the CDB asked for: an operation with its target and its IMMED.
 abbrev pub WaitsAs : List ℕ → Slot → Type 0
-WaitsAs cdb s = (q : Request) × (s ≡ Waiting q) × (wanted cdb ≡ Wants q.target) × (immed cdb ≡ q.immed)
+WaitsAs cdb s = (q : Request) × (s ≡ Waiting q) × (wanted cdb ≡ Some q.target) × (immed cdb ≡ q.immed)
 
 -- Each accepted START STOP UNIT has exactly one end report, or was taken by a reset, or still waits at the end: one of the three befalls it, and what
 -- still waits by the history does wait in the record.
@@ -117,20 +113,20 @@ sequence_error = record { key = 0x0B; asc = 0x2C; ascq = 0x00 }
 abbrev pub not_ready : Sense
 not_ready = record { key = 0x02; asc = 0x04; ascq = 0x02 }
 
-abbrev pub sense_for : Wanted → Sense
-sense_for Unlisted = sequence_error
-sense_for (Wants Stop) = sequence_error
-sense_for (Wants Start) = not_ready
-sense_for (Wants (GoTo c)) = sequence_error
+abbrev pub sense_for : Option Target → Sense
+sense_for None = sequence_error
+sense_for (Some Stop) = sequence_error
+sense_for (Some Start) = not_ready
+sense_for (Some (GoTo c)) = sequence_error
 
 -- What the acceptance and the end report say, by the CDB and the last answer: the status comes with one of them, a failure with its sense.
 pub record ReportsAs (cdb : List ℕ) (reply : Reply) (said : Said) (report : Report) : Type 0 where
   -- "With IMMED 1, GOOD is due on acceptance"
-  pub acceptance : said ≡ accepted (cond (immed cdb) GoodDue Pending)
+  pub acceptance : said ≡ accepted (Ok (cond (immed cdb) GoodDue Pending))
   -- "With IMMED 0 the status comes with the last answer."
   pub status : report.status ≡ cond (immed cdb) NoStatus (cond (fails reply) CheckCondition GoodStatus)
   -- a failure has its sense, what went well has none
-  pub sense : report.sense ≡ cond (fails reply) (WithSense (sense_for (wanted cdb))) NoSense
+  pub sense : report.sense ≡ cond (fails reply) (Some (sense_for (wanted cdb))) None
 
 -- The end report of what was still open.
 abbrev pub EndReported : StepFunction → Type 0
@@ -144,11 +140,11 @@ EndReported by = (u : Unit) (host : ℕ) (cdb : List ℕ) (cs : List Call) (repl
 -- holds nothing.
 abbrev pub HeldTold : StepFunction → Type 0
 HeldTold by = (u : Unit) (host : ℕ) (reply : Reply) (report : Report) (s : Sense) (cs : List Call) (buffer : List ℕ)
-    → well_formed u ≡ true → deed_by by u (answer host reply) ≡ ends host reply report → report.status ≡ NoStatus → report.sense ≡ WithSense s
+    → well_formed u ≡ true → deed_by by u (answer host reply) ≡ ends host reply report → report.status ≡ NoStatus → report.sense ≡ Some s
     → every_at (λ at d. keeps_held host d) 0 (deeds_after by u (answer host reply) cs) ≡ true
     → let w = unit_after by u (answer host reply) cs in
     deed_by by w (request_sense host buffer) ≡ does (request_sense host buffer)
-    → ((by w (request_sense host buffer)).buffer ≡ sense_bytes true s) × (held_of (by w (request_sense host buffer)).unit.held host ≡ Nothing)
+    → ((by w (request_sense host buffer)).buffer ≡ sense_bytes true s) × (held_of (by w (request_sense host buffer)).unit.held host ≡ None)
 
 -- A failure with IMMED is what that host's next accepted REQUEST SENSE gives, unless a newer failure or a reset came between: a START STOP UNIT
 -- accepted with IMMED 1; its last answer, which is bad; nothing that takes the held sense; the bytes of the failure.

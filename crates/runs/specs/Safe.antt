@@ -1,17 +1,16 @@
 -- No byte left behind, told by the history alone: the calls and what they said. Only the last definition speaks of the unsaved mark.
-use Rattle.std.specs.Prelude.{Bool, true, false, not, ◌&&◌, ◌≡◌, List, [], ◌∷◌, ◌↔◌, ℕ, ◌<◌, eqb, take, drop}
+use Rattle.std.specs.Prelude.{Bool, true, false, not, ◌&&◌, ◌≡◌, List, [], ◌∷◌, ◌↔◌, ℕ, ◌<◌, eqb, take, drop, Some, None, Option}
 use Rattle.drive.specs.declared.Edition.{Edition}
 use Rattle.drive.specs.declared.Made.{Made}
 use Rattle.engine.specs.Engine.{manufacture_outcome}
 use Rattle.requests.specs.declared.Target.TheVariants.{Stop, Start, GoTo}
 use Rattle.cdb.specs.Cdb.{no_flush, wanted}
 use Rattle.operations.specs.Operations.{is_good}
-use Rattle.cdb.specs.declared.Wanted.{Wanted}
-use Rattle.cdb.specs.declared.Wanted.TheVariants.{Wants, Unlisted}
 use Rattle.calls.specs.Calls.{Call, StepFunction, run_by}
 use Rattle.calls.specs.Described.{is_power_on, is_write}
 use Rattle.runs.specs.Deeds.{Deed, if_hands_out, if_ends, if_answered, does_a}
 use Rattle.runs.specs.Past.{past_by, cdb_of, flush_sent}
+use Rattle.requests.specs.declared.Target.{Target}
 
 -- ---- what the latest call was
 
@@ -54,11 +53,11 @@ pub record SomeUnsafe (past : List Deed) : Type 0 where
 -- ---- the guarantee
 
 -- A flushing operation: a stop or a go to, without NO_FLUSH.
-abbrev pub flushing : Wanted → Bool → Bool
-flushing Unlisted without = false
-flushing (Wants Stop) without = not without
-flushing (Wants Start) without = false
-flushing (Wants (GoTo c)) without = not without
+abbrev pub flushing : Option Target → Bool → Bool
+flushing None without = false
+flushing (Some Stop) without = not without
+flushing (Some Start) without = false
+flushing (Some (GoTo c)) without = not without
 
 abbrev pub asks_flush : List ℕ → Bool
 asks_flush cdb = flushing (wanted cdb) (no_flush cdb)

@@ -1,18 +1,18 @@
 -- Demand 3. The serial run is a list of calls, made from the history of the real one: each START STOP UNIT is run whole, at the place of its
 -- last drive answer.
-use Rattle.std.specs.Prelude.{Bool, true, not, ◌&&◌, ◌||◌, cond, ◌≡◌, List, [], ◌∷◌, ◌++◌, ℕ, eqb}
+use Rattle.std.specs.Prelude.{Bool, true, not, ◌&&◌, ◌||◌, cond, ◌≡◌, List, [], ◌∷◌, ◌++◌, ℕ, eqb, Option}
 use Rattle.rows.specs.Rows.{every_at}
 use Rattle.drive.specs.declared.Tenths.{Tenths}
 use Rattle.drive.specs.declared.Record.{Record}
 use Rattle.conditions.specs.declared.Power.{Power}
 use Rattle.unit.specs.Units.{is_waiting, well_formed}
-use Rattle.unit.specs.declared.HostHeld.{HostHeld}
 use Rattle.unit.specs.declared.Unit.{Unit}
 use Rattle.requests.specs.declared.Reply.{Reply}
 use Rattle.calls.specs.Calls.{Call, start_stop, next, answer, StepFunction, Event, run_by, history_by, run, history}
 use Rattle.calls.specs.Described.{is_reset}
 use Rattle.runs.specs.Deeds.{Deed, if_begins, if_ends, if_other, if_refused, deeds}
 use Rattle.runs.specs.Past.{cdb_of, answers_got}
+use Rattle.requests.specs.declared.Failure.{Failure}
 
 -- ---- the serial run
 
@@ -43,7 +43,7 @@ serial es = serial_after [] (deeds es)
 
 -- "with nothing waiting", "at whose end none waits".
 abbrev pub nothing_waits : Unit → Bool
-nothing_waits u = every_at (λ host s. not (is_waiting s.slot)) 0 u.slots
+nothing_waits u = every_at (λ host s. not (is_waiting s)) 0 u.slots
 
 -- "in which no reset falls while an operation waits".
 abbrev pub resets_at_rest : StepFunction → Unit → List Call → Bool
@@ -62,7 +62,7 @@ pub record Compared : Type 0 where
   pub idle : Tenths
   pub stopped : Bool
   pub unsaved : Bool
-  pub held : List HostHeld
+  pub held : List (Option Failure)
 
 abbrev pub compared : Unit → Compared
 compared u = record {

@@ -1,8 +1,8 @@
 -- The format page: what a line asks for. Assumes nothing.
-use Rattle.std.specs.Prelude.{cond, List, [], ◌∷◌, ◌++◌, ℕ, zero, suc, ltb, length}
+use Rattle.std.specs.Prelude.{cond, Option, Some, None, List, [], ◌∷◌, ◌++◌, ℕ, zero, suc, ltb, length}
 use Prim.Native.String.{String}
 use Rattle.asked.specs.declared.Line.{Line}
-use Rattle.asked.specs.declared.Line.TheVariants.{Blank, Wrong, Opens, Closes, Shows, Tables}
+use Rattle.asked.specs.declared.Line.TheVariants.{Blank, Opens, Closes, Shows, Tables}
 use Rattle.words.specs.Codes.{codes}
 use Rattle.words.specs.Words.{same, word_at}
 use Rattle.words.specs.Fields.{has_words}
@@ -16,10 +16,10 @@ use Rattle.words.specs.Lines.{line_in}
 -- A command: its name, and what a line that starts with it asks for.
 pub record Entry : Type 0 where
   pub name : List ℕ
-  pub reader : List ℕ → Line
+  pub reader : List ℕ → Option Line
 
 infixl 20 ◌reads◌
-abbrev pub ◌reads◌ : String → (List ℕ → Line) → Entry
+abbrev pub ◌reads◌ : String → (List ℕ → Option Line) → Entry
 name reads reader = record { name = codes name; reader = reader }
 
 abbrev pub call_entries : List Entry
@@ -55,8 +55,8 @@ part_entries =
     ∷ []
 
 -- A word that stands alone.
-abbrev pub alone : Line → List ℕ → Line
-alone asked line = offered (has_words 1 line) asked
+abbrev pub alone : Line → List ℕ → Option Line
+alone asked line = offered (has_words 1 line) (Some asked)
 
 abbrev pub lone_entries : List Entry
 lone_entries = ("unit" reads alone Opens) ∷ ("end" reads alone Closes) ∷ ("show" reads alone Shows) ∷ ("table" reads alone Tables) ∷ []
@@ -65,20 +65,20 @@ abbrev pub names : List Entry → List (List ℕ)
 names [] = []
 names (e ∷ es) = e.name ∷ names es
 
-abbrev pub reader_at : List Entry → ℕ → List ℕ → Line
-reader_at [] k line = Wrong
+abbrev pub reader_at : List Entry → ℕ → List ℕ → Option Line
+reader_at [] k line = None
 reader_at (e ∷ es) zero line = e.reader line
 reader_at (e ∷ es) (suc k) line = reader_at es k line
 
 -- The reader whose name is the line's first word.
-abbrev pub read_by : List Entry → List ℕ → Line
-read_by [] line = Wrong
+abbrev pub read_by : List Entry → List ℕ → Option Line
+read_by [] line = None
 read_by (e ∷ es) line = cond (same (word_at 0 line) e.name) (e.reader line) (read_by es line)
 
 -- "A line with no word prints nothing."
-unfoldable pub line_of_words : List ℕ → Line
-line_of_words line = cond (has_words 0 line) Blank (read_by (call_entries ++ part_entries ++ lone_entries) line)
+unfoldable pub line_of_words : List ℕ → Option Line
+line_of_words line = cond (has_words 0 line) (Some Blank) (read_by (call_entries ++ part_entries ++ lone_entries) line)
 
 -- "A line of more than 4,000 bytes before the LF is `error`, whatever is in it."
-unfoldable pub line_of_text : List ℕ → Line
-line_of_text text = cond (ltb 4000 (length text)) Wrong (line_of_words (line_in text))
+unfoldable pub line_of_text : List ℕ → Option Line
+line_of_text text = cond (ltb 4000 (length text)) None (line_of_words (line_in text))

@@ -6,8 +6,9 @@ ghost use Rattle.script.specs.Lines.{call_entries, part_entries, lone_entries, r
 
 use asked::Line;
 
-// The names of calls are at places 0 to 14.
-fn call_at(line: &[u8], place: usize) -> Line
+// The names of calls are at places 0 to 14. Stays a match on the place: one on the name itself was tried, and left the proof of its last arm a case for
+// each length and byte at which the names part.
+fn call_at(line: &[u8], place: usize) -> Option<Line>
     ensures { result ≡ reader_at call_entries place line.now }
 {
     match place {
@@ -26,11 +27,12 @@ fn call_at(line: &[u8], place: usize) -> Line
         12 => pairs::record_line(line),
         13 => commands::new_page_line(line),
         14 => commands::make_line(line),
-        _ => Line::Wrong,
+        _ => None,
     }
 }
 
-fn part_at(line: &[u8], place: usize) -> Line
+// Stays a match on the place, as that of `call_at`.
+fn part_at(line: &[u8], place: usize) -> Option<Line>
     ensures { result ≡ reader_at part_entries place line.now }
 {
     match place {
@@ -42,69 +44,52 @@ fn part_at(line: &[u8], place: usize) -> Line
         5 => parts::counts_line(line),
         6 => parts::edition_line(line),
         7 => parts::maker_line(line),
-        _ => Line::Wrong,
-    }
-}
-
-fn lone_at(line: &[u8], place: usize) -> Line
-    ensures { result ≡ reader_at lone_entries place line.now }
-{
-    let alone = words::word_count(line) == 1;
-    match place {
-        0 => asked::offered(alone, Line::Opens),
-        1 => asked::offered(alone, Line::Closes),
-        2 => asked::offered(alone, Line::Shows),
-        3 => asked::offered(alone, Line::Tables),
-        _ => Line::Wrong,
+        _ => None,
     }
 }
 
 // What a line asks for by a word that stands alone.
-fn read_lone(line: &[u8]) -> Line
+fn read_lone(line: &[u8]) -> Option<Line>
     ensures { result ≡ read_by lone_entries line.now }
 {
-    let place = words::name_at(line, 0, b"unit end show table");
-    lone_at(line, place)
+    if words::word_count(line) != 1 {
+        return None;
+    }
+    let asked = [Line::Opens, Line::Closes, Line::Shows, Line::Tables];
+    asked::kind_at(line, 0, b"unit end show table", asked)
 }
 
 // What it asks for by a word of a block, or by one that stands alone.
-fn read_in_block(line: &[u8]) -> Line
+fn read_in_block(line: &[u8]) -> Option<Line>
     ensures { result ≡ read_by (part_entries ++ lone_entries) line.now }
 {
-    let place = words::name_at(line, 0, b"c state slot held out counts ed m");
-    if place < 8 {
-        part_at(line, place)
-    } else {
-        read_lone(line)
+    match words::name_at(line, 0, b"c state slot held out counts ed m") {
+        Some(place) => part_at(line, place),
+        None => read_lone(line),
     }
 }
 
 // What the line's words ask for.
-fn read_words(line: &[u8]) -> Line
+fn read_words(line: &[u8]) -> Option<Line>
     ensures { result ≡ line_of_words line.now }
 {
-    let n = words::word_count(line);
-    if n == 0 {
-        return Line::Blank;
+    if words::word_count(line) == 0 {
+        return Some(Line::Blank);
     }
-    let place = words::name_at(
-        line,
-        0,
-        b"tick epc read write reset ssu next answer sense log trans faults record page make",
-    );
-    if place < 15 {
-        call_at(line, place)
-    } else {
-        read_in_block(line)
+    let calls =
+        b"tick epc read write reset ssu next answer sense log trans faults record page make";
+    match words::name_at(line, 0, calls) {
+        Some(place) => call_at(line, place),
+        None => read_in_block(line),
     }
 }
 
-// A line's bytes before its LF as what they ask for.
-pub fn read(text: &[u8]) -> Line
+// A line's bytes before its LF as what they ask for, if the line is as the format says.
+pub fn read(text: &[u8]) -> Option<Line>
     ensures { result ≡ line_of_text text.now }
 {
     if text.len() > 4000 {
-        return Line::Wrong;
+        return None;
     }
     let end = words::without_return(text);
     read_words(&text[..end])

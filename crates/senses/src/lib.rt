@@ -7,7 +7,7 @@ ghost use Rattle.senses.specs.Senses.{sense_bytes, by_cause, ascq_of, power_sens
 use conditions::{Cause, Condition, Power};
 
 // Sense key, additional sense code and its qualifier.
-#[derive(Clone, Copy)]
+#[derive(Clone, Copy, PartialEq, Eq)]
 pub struct Sense {
     pub key: u8,
     pub asc: u8,

@@ -1,9 +1,11 @@
 -- No line of a block is cut: each piece of it has a bound, whatever its number, and the bounds of a line's pieces add up to less than a text's room.
+use Rattle.std.proofs.Common.{Some, None, Option}
 use mathlib.Core.Path.{◌≡◌}
 use mathlib.Core.Bool.{Bool, true, false}
 use mathlib.Core.List.{List, [], ◌∷◌, ◌++◌, map}
 use Prim.Native.Nat.{ℕ}
 use native.Mathlib.Omega.{arith}
+use lib.ListN.{get_or}
 use Rattle.conditions.specs.declared.Cause.TheVariants.{Timer, Command}
 use Rattle.conditions.specs.declared.Condition.{Condition}
 use Rattle.conditions.specs.declared.Power.{Power}
@@ -12,10 +14,6 @@ use Rattle.drive.specs.declared.Edition.{Edition}
 use Rattle.drive.specs.declared.Edition.TheVariants.{Draft, Published}
 use Rattle.drive.specs.declared.Record.{Record}
 use Rattle.drive.specs.declared.Setting.{Setting}
-use Rattle.unit.specs.declared.Held.{Held}
-use Rattle.unit.specs.declared.Held.TheVariants.{Nothing, Holds}
-use Rattle.unit.specs.declared.Out.{Out}
-use Rattle.unit.specs.declared.Out.TheVariants.{NoneOut, OutFor}
 use Rattle.unit.specs.declared.Slot.{Slot}
 use Rattle.unit.specs.declared.Slot.TheVariants.{Empty, Waiting}
 use Rattle.requests.specs.declared.Stage.{Stage}
@@ -26,13 +24,11 @@ use Rattle.unit.specs.declared.Unit.{Unit}
 use Rattle.words.specs.Codes.{codes}
 use Rattle.digits.specs.Numerals.{pairs}
 use Rattle.digits.proofs.Lengths.{Within, whole, looser, ◌then◌, either, hex, ended, Uncut, none, ◌and◌}
-use Rattle.asked.specs.declared.Entries.{Entries}
 use Rattle.asked.specs.declared.Part.{Part}
 use Rattle.asked.specs.declared.Part.TheVariants.{IsOf, Settings, Stands, HasSlot, HasHeld, HasOut, HasCounts}
-use Rattle.asked.specs.declared.Tally.{Tally}
 use Rattle.asked.specs.Records.{parts_of}
 use Rattle.digits.specs.Pieces.{flag_word, number_word}
-use Rattle.spelling.specs.Spelling.{edition_word, letter_word, setting_words, record_words, power_words, target_word, stage_words, slot_words, held_words, out_words, entries_words, tally_words, part_text, shown}
+use Rattle.spelling.specs.Spelling.{edition_word, letter_word, setting_words, record_words, power_words, target_word, stage_words, slot_words, held_words, out_words, row_words, counts_words, part_text, shown}
 
 -- ---- the pieces
 
@@ -75,20 +71,21 @@ slot : (s : Slot) → Within (slot_words s) 19
 slot Empty = looser (omega arith) (whole (codes " -"))
 slot (Waiting q) = target q.target then flag q.immed then stage q.stage
 
-held : (h : Held) → Within (held_words h) 9
+held : (h : Option Failure) → Within (held_words h) 9
 unfolding pairs
-held Nothing = looser (omega arith) (whole (codes " -"))
-held (Holds f) = whole (held_words (Holds f))
+held None = looser (omega arith) (whole (codes " -"))
+held (Some f) = whole (held_words (Some f))
 
-out : (o : Out) → Within (out_words o) 9
-out NoneOut = looser (omega arith) (whole (codes " -"))
-out (OutFor host) = number host
+out : (o : Option ℕ) → Within (out_words o) 9
+out None = looser (omega arith) (whole (codes " -"))
+out (Some host) = number host
 
-entries : (e : Entries) → Within (entries_words e) 18
-entries e = number e.timer then number e.other
+row : (r : List ℕ) → Within (row_words r) 18
+row r = number (get_or r 0 0) then number (get_or r 1 0)
 
-tally : (t : Tally) → Within (tally_words t) 108
-tally t = entries t.active then entries t.a then entries t.b then entries t.c then entries t.y then entries t.z
+counts : (t : List (List ℕ)) → Within (counts_words t) 108
+counts t =
+    row (get_or t 0 []) then row (get_or t 1 []) then row (get_or t 2 []) then row (get_or t 3 []) then row (get_or t 4 []) then row (get_or t 5 [])
 
 -- ---- the line: the longest is that of the counts
 
@@ -102,7 +99,7 @@ part (Stands s) =
 part (HasSlot host s) = looser (omega arith) (whole (codes "slot") then number host then slot s)
 part (HasHeld host h) = looser (omega arith) (whole (codes "held") then number host then held h)
 part (HasOut o) = looser (omega arith) (whole (codes "out") then out o)
-part (HasCounts t) = whole (codes "counts") then tally t
+part (HasCounts t) = whole (codes "counts") then counts t
 
 -- ---- the block
 

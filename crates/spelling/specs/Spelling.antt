@@ -1,5 +1,5 @@
 -- The format page: how `show` spells a record. Assumes nothing.
-use Rattle.std.specs.Prelude.{true, false, List, [], ◌∷◌, ◌++◌, ℕ}
+use Rattle.std.specs.Prelude.{true, false, List, [], ◌∷◌, ◌++◌, ℕ, get_or}
 use Prim.Native.Char.{code}
 use Rattle.conditions.specs.declared.Cause.{Cause}
 use Rattle.conditions.specs.declared.Cause.TheVariants.{Timer, Command}
@@ -13,10 +13,6 @@ use Rattle.drive.specs.declared.Record.{Record}
 use Rattle.drive.specs.declared.Setting.{Setting}
 use Rattle.senses.specs.declared.Sense.{Sense}
 use Rattle.requests.specs.Requests.{failure_sense}
-use Rattle.unit.specs.declared.Held.{Held}
-use Rattle.unit.specs.declared.Held.TheVariants.{Nothing, Holds}
-use Rattle.unit.specs.declared.Out.{Out}
-use Rattle.unit.specs.declared.Out.TheVariants.{NoneOut, OutFor}
 use Rattle.requests.specs.declared.Request.{Request}
 use Rattle.unit.specs.declared.Slot.{Slot}
 use Rattle.unit.specs.declared.Slot.TheVariants.{Empty, Waiting}
@@ -26,14 +22,13 @@ use Rattle.requests.specs.declared.Target.{Target}
 use Rattle.requests.specs.declared.Target.TheVariants.{Stop, Start, GoTo}
 use Rattle.unit.specs.declared.Unit.{Unit}
 use Rattle.words.specs.Codes.{codes}
-use Rattle.asked.specs.declared.Entries.{Entries}
 use Rattle.asked.specs.declared.Part.{Part}
 use Rattle.asked.specs.declared.Part.TheVariants.{IsOf, Settings, Stands, HasSlot, HasHeld, HasOut, HasCounts}
 use Rattle.asked.specs.declared.State.{State}
-use Rattle.asked.specs.declared.Tally.{Tally}
 use Rattle.asked.specs.Records.{parts_of}
 use Rattle.digits.specs.Sheets.{line_text}
 use Rattle.digits.specs.Pieces.{sense_text, flag_word, number_word}
+use Rattle.requests.specs.declared.Failure.{Failure}
 
 -- "single spaces, no space at a line's end": each word but the first has its space before it.
 abbrev pub letter_of : Condition → ℕ
@@ -95,23 +90,23 @@ slot_words (Waiting q) = request_words q
 abbrev pub spaced_text : Sense → List ℕ
 spaced_text s = sense_text (code " ") (code " ") s.key s.asc s.ascq
 
-abbrev pub held_words : Held → List ℕ
-held_words Nothing = codes " -"
-held_words (Holds f) = spaced_text (failure_sense f)
+abbrev pub held_words : Option Failure → List ℕ
+held_words None = codes " -"
+held_words (Some f) = spaced_text (failure_sense f)
 
 -- out -, out H
-abbrev pub out_words : Out → List ℕ
-out_words NoneOut = codes " -"
-out_words (OutFor host) = number_word host
+abbrev pub out_words : Option ℕ → List ℕ
+out_words None = codes " -"
+out_words (Some host) = number_word host
 
 -- counts and twelve numbers, "rows in power order, each timer then other"
-abbrev pub entries_words : Entries → List ℕ
-entries_words e = number_word e.timer ++ number_word e.other
+abbrev pub row_words : List ℕ → List ℕ
+row_words row = number_word (get_or row 0 0) ++ number_word (get_or row 1 0)
 
-abbrev pub tally_words : Tally → List ℕ
-tally_words t =
-    entries_words t.active ++ entries_words t.a ++ entries_words t.b
-    ++ entries_words t.c ++ entries_words t.y ++ entries_words t.z
+abbrev pub counts_words : List (List ℕ) → List ℕ
+counts_words t =
+    row_words (get_or t 0 []) ++ row_words (get_or t 1 []) ++ row_words (get_or t 2 [])
+    ++ row_words (get_or t 3 []) ++ row_words (get_or t 4 []) ++ row_words (get_or t 5 [])
 
 unfoldable pub part_text : Part → List ℕ
 part_text (IsOf e) = codes "ed" ++ edition_word e
@@ -120,7 +115,7 @@ part_text (Stands s) = codes "state" ++ state_words s
 part_text (HasSlot host s) = codes "slot" ++ number_word host ++ slot_words s
 part_text (HasHeld host h) = codes "held" ++ number_word host ++ held_words h
 part_text (HasOut out) = codes "out" ++ out_words out
-part_text (HasCounts t) = codes "counts" ++ tally_words t
+part_text (HasCounts t) = codes "counts" ++ counts_words t
 
 abbrev pub part_lines : List Part → List (List ℕ)
 part_lines [] = []

@@ -8,15 +8,15 @@ ghost use Rattle.asked.specs.Records;
 ghost use Rattle.asked.specs.Records.{settings_of, state_of, entries_at, tally_of, counts_part, after_edition, parts_of};
 ghost use Rattle.asked.specs.declared.Part.TheVariants.{HasOut};
 ghost use Rattle.spelling.specs.Spelling;
-ghost use Rattle.spelling.specs.Spelling.{edition_word, letter_word, setting_words, record_words, power_words, state_words, target_word, stage_words, request_words, slot_words, spaced_text, held_words, out_words, entries_words, tally_words, part_text, shown};
+ghost use Rattle.spelling.specs.Spelling.{edition_word, letter_word, setting_words, record_words, power_words, state_words, target_word, stage_words, request_words, slot_words, spaced_text, held_words, out_words, row_words, counts_words, part_text, shown};
 
-use asked::{Entries, Part, State, Tally};
+use asked::{Part, State};
 use conditions::{Cause, Condition, Power};
 use digits::{Sheet, Text};
 use drive::{Edition, Record, Setting};
-use requests::{Request, Stage, Target};
+use requests::{Failure, Request, Stage, Target};
 use senses::Sense;
-use unit::{Held, Out, Slot, Unit};
+use unit::{Slot, Unit};
 
 // ---- the parts of a record
 
@@ -35,30 +35,6 @@ fn state_of(u: Unit) -> State
         idle: u.drive.idle,
         stopped: u.stopped,
         unsaved: u.unsaved,
-    }
-}
-
-// A row of the table of counts.
-fn entries_at(counts: [u32; 12], at: usize) -> Entries
-    requires { at < 11 }
-    ensures { result ≡ entries_at at counts }
-{
-    Entries {
-        timer: counts[at],
-        other: counts[at + 1],
-    }
-}
-
-fn tally_of(counts: [u32; 12]) -> Tally
-    ensures { result ≡ tally_of counts }
-{
-    Tally {
-        active: entries_at(counts, 0),
-        a: entries_at(counts, 2),
-        b: entries_at(counts, 4),
-        c: entries_at(counts, 6),
-        y: entries_at(counts, 8),
-        z: entries_at(counts, 10),
     }
 }
 
@@ -180,39 +156,40 @@ fn spell_sense(t: Text, s: Sense) -> Text
     t.put_sense(s.key, s.asc, s.ascq, b' ', b' ')
 }
 
-fn spell_held(t: Text, h: Held) -> Text
+fn spell_held(t: Text, h: Option<Failure>) -> Text
     ensures { said result ≡ cut (said t ++ held_words h) }
 {
     match h {
-        Held::Nothing => t.put_all(b" -"),
-        Held::Holds(f) => spell_sense(t, requests::failure_sense(f)),
+        None => t.put_all(b" -"),
+        Some(f) => spell_sense(t, requests::failure_sense(f)),
     }
 }
 
-fn spell_out(t: Text, out: Out) -> Text
+fn spell_out(t: Text, out: Option<u32>) -> Text
     ensures { said result ≡ cut (said t ++ out_words out) }
 {
     match out {
-        Out::NoneOut => t.put_all(b" -"),
-        Out::OutFor(host) => t.put_number(host),
+        None => t.put_all(b" -"),
+        Some(host) => t.put_number(host),
     }
 }
 
-fn spell_entries(t: Text, e: Entries) -> Text
-    ensures { said result ≡ cut (said t ++ entries_words e) }
+// A row of the table of counts.
+fn spell_row(t: Text, row: [u32; 2]) -> Text
+    ensures { said result ≡ cut (said t ++ row_words row) }
 {
-    t.put_number(e.timer).put_number(e.other)
+    t.put_number(row[0]).put_number(row[1])
 }
 
-fn spell_tally(t: Text, tally: Tally) -> Text
-    ensures { said result ≡ cut (said t ++ tally_words tally) }
+fn spell_counts(t: Text, table: [[u32; 2]; 6]) -> Text
+    ensures { said result ≡ cut (said t ++ counts_words table) }
 {
-    let t = spell_entries(t, tally.active);
-    let t = spell_entries(t, tally.a);
-    let t = spell_entries(t, tally.b);
-    let t = spell_entries(t, tally.c);
-    let t = spell_entries(t, tally.y);
-    spell_entries(t, tally.z)
+    let t = spell_row(t, table[0]);
+    let t = spell_row(t, table[1]);
+    let t = spell_row(t, table[2]);
+    let t = spell_row(t, table[3]);
+    let t = spell_row(t, table[4]);
+    spell_row(t, table[5])
 }
 
 // The line that sets a part.
@@ -227,7 +204,7 @@ fn spell(p: Part) -> Text
         Part::HasSlot(host, s) => spell_slot(Text::of(b"slot").put_number(host), s),
         Part::HasHeld(host, h) => spell_held(Text::of(b"held").put_number(host), h),
         Part::HasOut(out) => spell_out(Text::of(b"out"), out),
-        Part::HasCounts(tally) => spell_tally(Text::of(b"counts"), tally),
+        Part::HasCounts(table) => spell_counts(Text::of(b"counts"), table),
     }
 }
 
@@ -249,6 +226,6 @@ pub fn show<const N: usize>(u: Unit, out: &mut Sheet<N>)
         out.put_line(spell(Part::HasHeld(holder, unit::held_of(u.held, holder))));
     }
     out.put_line(spell(Part::HasOut(u.out)));
-    out.put_line(spell(Part::HasCounts(tally_of(u.drive.counts))));
+    out.put_line(spell(Part::HasCounts(transitions::table_of(u.drive.counts))));
     out.put_line(Text::of(b"end"));
 }

@@ -47,7 +47,7 @@ fn end_line(r: Run, line: &[u8], out: &mut [u8]) -> Run
     requires { r.at + 4096 ≤ length out.old }
     ensures { (stream_of result line.now out.new ≡ answered (stream_of r line.now out.old)) × (result.from ≡ r.from) × (result.at ≤ r.at + 4096) }
 {
-    let n = words::smaller(r.len, line.len());
+    let n = r.len.min(line.len());
     let step = replies::respond(r.session, &line[..n], out, r.at);
     let next = step.session;
     Run {

@@ -1,4 +1,5 @@
 -- No line of the table is cut: each piece of it has a bound, whatever its number, and the bounds of a line's pieces add up to less than a text's room.
+use Rattle.std.proofs.Common.{Some, None, Option}
 use mathlib.Core.Path.{◌≡◌}
 use mathlib.Core.Bool.{Bool}
 use mathlib.Core.List.{[], map}
@@ -14,10 +15,6 @@ use Rattle.drive.specs.declared.Edition.TheVariants.{Draft, Published}
 use Rattle.drive.specs.declared.Record.{Record}
 use Rattle.drive.specs.declared.Setting.{Setting}
 use Rattle.unit.specs.Units.{slot_of, held_of}
-use Rattle.unit.specs.declared.Held.{Held}
-use Rattle.unit.specs.declared.Held.TheVariants.{Nothing, Holds}
-use Rattle.unit.specs.declared.Out.{Out}
-use Rattle.unit.specs.declared.Out.TheVariants.{NoneOut, OutFor}
 use Rattle.unit.specs.declared.Slot.{Slot}
 use Rattle.unit.specs.declared.Slot.TheVariants.{Empty, Waiting}
 use Rattle.requests.specs.declared.Stage.{Stage}
@@ -33,6 +30,7 @@ use Rattle.table.specs.Below.{edition_text, flag_text, out_text, target_text, im
 use Rattle.table.specs.Counts.{count_head, count_text, count_at}
 use Rattle.table.specs.Table.{head_text, rule_text, head_at, mark_at, texts, table_lines}
 use Rattle.table.proofs.Rows.{mark, name, label, row_name_lem}
+use Rattle.requests.specs.declared.Failure.{Failure}
 
 -- ---- a row
 
@@ -74,9 +72,9 @@ edition Published = whole (codes "edition      published ACS-2")
 flag : (b : Bool) → Within (flag_text b) 3
 flag b = either b (whole (codes "yes")) (looser (omega arith) (whole (codes "no")))
 
-out : (o : Out) → Within (out_text o) 28
-out NoneOut = looser (omega arith) (whole (codes "command out  none"))
-out (OutFor host) = whole (codes "command out  host ") then decimal host
+out : (o : Option ℕ) → Within (out_text o) 28
+out None = looser (omega arith) (whole (codes "command out  none"))
+out (Some host) = whole (codes "command out  host ") then decimal host
 
 target : (t : Target) → Within (target_text t) 15
 target Stop = looser (omega arith) (whole (codes "stop"))
@@ -94,10 +92,10 @@ slot : (s : Slot) → Within (slot_text s) 51
 slot Empty = looser (omega arith) (whole (codes "nothing waiting"))
 slot (Waiting q) = target q.target then immed q.immed then stage q.stage
 
-held : (h : Held) → Within (held_text h) 30
+held : (h : Option Failure) → Within (held_text h) 30
 unfolding pairs
-held Nothing = looser (omega arith) (whole [])
-held (Holds f) = whole (held_text (Holds f))
+held None = looser (omega arith) (whole [])
+held (Some f) = whole (held_text (Some f))
 
 -- ---- the lines, by their groups
 

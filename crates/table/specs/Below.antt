@@ -1,16 +1,12 @@
 -- The power log for the eye: "then the marks, the idle count and each host's operation on lines of their own", and above them the unit's edition.
 -- Assumes nothing.
-use Rattle.std.specs.Prelude.{Bool, cond, List, [], ◌++◌, ℕ}
+use Rattle.std.specs.Prelude.{Bool, cond, List, [], ◌++◌, ℕ, Some, None, Option}
 use Prim.Native.Char.{code}
 use Rattle.drive.specs.declared.Edition.{Edition}
 use Rattle.drive.specs.declared.Edition.TheVariants.{Draft, Published}
 use Rattle.senses.specs.declared.Sense.{Sense}
 use Rattle.requests.specs.Requests.{failure_sense}
 use Rattle.unit.specs.Units.{slot_of, held_of}
-use Rattle.unit.specs.declared.Held.{Held}
-use Rattle.unit.specs.declared.Held.TheVariants.{Nothing, Holds}
-use Rattle.unit.specs.declared.Out.{Out}
-use Rattle.unit.specs.declared.Out.TheVariants.{NoneOut, OutFor}
 use Rattle.requests.specs.declared.Request.{Request}
 use Rattle.unit.specs.declared.Slot.{Slot}
 use Rattle.unit.specs.declared.Slot.TheVariants.{Empty, Waiting}
@@ -23,6 +19,7 @@ use Rattle.words.specs.Codes.{codes}
 use Rattle.digits.specs.Numerals.{decimal_text, tenths_text}
 use Rattle.digits.specs.Pieces.{sense_text}
 use Rattle.table.specs.Rows.{name_text}
+use Rattle.requests.specs.declared.Failure.{Failure}
 
 abbrev pub edition_text : Edition → List ℕ
 edition_text Draft = codes "edition      draft"
@@ -40,9 +37,9 @@ unsaved_text u = codes "unsaved      " ++ flag_text u.unsaved
 abbrev pub idle_text : Unit → List ℕ
 idle_text u = codes "idle count   " ++ tenths_text u.drive.idle.0 ++ codes " s"
 
-abbrev pub out_text : Out → List ℕ
-out_text NoneOut = codes "command out  none"
-out_text (OutFor host) = codes "command out  host " ++ decimal_text host
+abbrev pub out_text : Option ℕ → List ℕ
+out_text None = codes "command out  none"
+out_text (Some host) = codes "command out  host " ++ decimal_text host
 
 -- ---- a host's operation
 
@@ -69,9 +66,9 @@ slot_text (Waiting q) = request_text q
 abbrev pub sense_held_text : Sense → List ℕ
 sense_held_text s = codes ", deferred sense" ++ sense_text (code " ") (code "/") s.key s.asc s.ascq ++ codes " held"
 
-abbrev pub held_text : Held → List ℕ
-held_text Nothing = []
-held_text (Holds f) = sense_held_text (failure_sense f)
+abbrev pub held_text : Option Failure → List ℕ
+held_text None = []
+held_text (Some f) = sense_held_text (failure_sense f)
 
 abbrev pub host_text : Unit → ℕ → List ℕ
 host_text u host =

@@ -16,9 +16,9 @@ ghost use Rattle.table.specs.Table.{table_lines};
 use conditions::Condition;
 use digits::{Sheet, Text};
 use drive::{Drive, Edition, Record, Setting};
-use requests::{Request, Stage, Target};
+use requests::{Failure, Request, Stage, Target};
 use senses::Sense;
-use unit::{Held, Out, Slot, Unit};
+use unit::{Slot, Unit};
 
 // ---- a condition's row
 
@@ -146,12 +146,12 @@ fn idle_line(u: Unit) -> Text
         .put_all(b" s")
 }
 
-fn out_line(out: Out) -> Text
+fn out_line(out: Option<u32>) -> Text
     ensures { said result ≡ cut (out_text out) }
 {
     match out {
-        Out::NoneOut => Text::of(b"command out  none"),
-        Out::OutFor(host) => Text::of(b"command out  host ").put_decimal(host),
+        None => Text::of(b"command out  none"),
+        Some(host) => Text::of(b"command out  host ").put_decimal(host),
     }
 }
 
@@ -200,12 +200,12 @@ fn put_sense_held(t: Text, s: Sense) -> Text
     sense.put_all(b" held")
 }
 
-fn put_held(t: Text, h: Held) -> Text
+fn put_held(t: Text, h: Option<Failure>) -> Text
     ensures { said result ≡ cut (said t ++ held_text h) }
 {
     match h {
-        Held::Nothing => t,
-        Held::Holds(f) => put_sense_held(t, requests::failure_sense(f)),
+        None => t,
+        Some(f) => put_sense_held(t, requests::failure_sense(f)),
     }
 }
 

@@ -36,7 +36,7 @@ pub fn flat_of(t: [[u32; 2]; 6]) -> [u32; 12]
 fn one_entry(n: u32) -> u32
     ensures { result ≡ one_entry n }
 {
-    if n < 0xFFFFFFFF { n + 1 } else { n }
+    n.saturating_add(1)
 }
 
 // The cell is read from the copy that is written, so that there is one.
@@ -83,11 +83,7 @@ pub fn count_entry(t: [[u32; 2]; 6], before: Power, entered: Power) -> [[u32; 2]
 fn sum_of(x: u32, y: u32) -> u32
     ensures { result ≡ held_full (x + y) }
 {
-    if x < 0xFFFFFFFF - y {
-        x + y
-    } else {
-        0xFFFFFFFF
-    }
+    x.saturating_add(y)
 }
 
 // What the page shows of a row.
@@ -102,16 +98,8 @@ pub fn row_sum(t: [[u32; 2]; 6], row: usize) -> u32
 fn parameter(code: u8, n: u32) -> [u8; 8]
     ensures { result ≡ parameter_bytes code n }
 {
-    [
-        0,
-        code,
-        0x03,
-        4,
-        (n / 256 / 256 / 256 % 256) as u8,
-        (n / 256 / 256 % 256) as u8,
-        (n / 256 % 256) as u8,
-        (n % 256) as u8,
-    ]
+    let [b3, b2, b1, b0] = n.to_be_bytes();
+    [0, code, 0x03, 4, b3, b2, b1, b0]
 }
 
 // A row's parameter, at its place of the page.
@@ -120,8 +108,7 @@ fn put_row(page: [u8; 52], at: usize, code: u8, t: [[u32; 2]; 6], row: usize) ->
     ensures { result ≡ paste page at (parameter_bytes code (row_sum row t)) 8 }
 {
     let mut next = page;
-    let bytes = parameter(code, row_sum(t, row));
-    rows::copy_in(&bytes, &mut next, at);
+    rows::copy_in(&parameter(code, row_sum(t, row)), &mut next, at);
     next
 }
 

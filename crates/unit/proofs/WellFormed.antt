@@ -1,5 +1,6 @@
 -- A well-formed record is taken apart into its drive, its hosts and what is out, and put together again; so each changed part keeps it well formed.
 -- Requests stay well formed since they ask of the records only what the maker said.
+use Rattle.std.proofs.Common.{Some, None, Option}
 use mathlib.Core.Path.{◌≡◌, refl, ap, sym, ◌∙◌}
 use mathlib.Core.Bool.{Bool, true, false, ◌&&◌, true≢false}
 use mathlib.Core.List.{List, [], ◌∷◌, map}
@@ -19,7 +20,7 @@ use Rattle.drive.specs.declared.Drive.{Drive}
 use Rattle.drive.specs.declared.Made.{Made}
 use Rattle.drive.proofs.WellFormed.{restarted_fine, used_fine}
 use Rattle.drive.proofs.Maker.{maker_used}
-use Rattle.unit.specs.Units.{empty_slot, slot_of, is_out, slot_well_formed, host_well_formed, hosts_well_formed, out_well_formed, well_formed, with_drive, with_marks, with_slot, with_held, with_out, without_hosts, rested, largest_of}
+use Rattle.unit.specs.Units.{slot_of, is_out, slot_well_formed, host_well_formed, hosts_well_formed, out_well_formed, well_formed, with_drive, with_marks, with_slot, with_held, with_out, without_hosts, rested, largest_of}
 use Rattle.requests.specs.Requests.{supported_in, request_well_formed}
 use Rattle.requests.specs.declared.Target.{Target}
 use Rattle.requests.specs.declared.Target.TheVariants.{Stop, Start, GoTo}
@@ -27,11 +28,8 @@ use Rattle.requests.specs.declared.Stage.{Stage}
 use Rattle.requests.specs.declared.Stage.TheVariants.{Straight, Flushing}
 use Rattle.unit.specs.declared.Slot.{Slot}
 use Rattle.unit.specs.declared.Slot.TheVariants.{Empty, Waiting}
-use Rattle.unit.specs.declared.HostSlot.{HostSlot}
-use Rattle.unit.specs.declared.Held.{Held}
-use Rattle.unit.specs.declared.Out.{Out}
-use Rattle.unit.specs.declared.Out.TheVariants.{NoneOut, OutFor}
 use Rattle.unit.specs.declared.Unit.{Unit}
+use Rattle.requests.specs.declared.Failure.{Failure}
 
 -- ---- a row and one place of it
 
@@ -61,9 +59,9 @@ pub record UnitFine (u : Unit) : Type 0 where
   pub out : out_well_formed u.slots u.out ≡ true
 
 -- the test of every slot says of each host that its slot is well formed
-each_request : (rs : List Record) (slots : List HostSlot) → every_at (host_well_formed rs) 0 slots ≡ true
+each_request : (rs : List Record) (slots : List Slot) → every_at (host_well_formed rs) 0 slots ≡ true
     → (host : ℕ) → slot_well_formed rs (slot_of slots host) ≡ true
-each_request rs slots = every_get (λ s. slot_well_formed rs s.slot) empty_slot refl 0 slots
+each_request rs slots = every_get (slot_well_formed rs) Empty refl 0 slots
 
 module _ (u : Unit) where
   apart : well_formed u ≡ true → UnitFine u
@@ -92,7 +90,7 @@ module _ (u : Unit) where
         eq-eqb _ _ p.slots,
         eq-eqb _ _ p.held,
         p.out,
-        every_from (host_well_formed u.drive.records) u.slots empty_slot (λ i k. p.requests i),
+        every_from (host_well_formed u.drive.records) u.slots Empty (λ i k. p.requests i),
       )
 
   -- A record is well formed exactly if its parts are fine.
@@ -120,9 +118,9 @@ module _ (rs ss : List Record) (same : map maker_of rs ≡ map maker_of ss) wher
 
 -- ---- each part changed
 
-none_out : (slots : List HostSlot) (o : Out) → is_out o ≡ false → out_well_formed slots o ≡ true
-none_out slots NoneOut e = refl
-none_out slots (OutFor host) e = absurd (true≢false e)
+none_out : (slots : List Slot) (o : Option ℕ) → is_out o ≡ false → out_well_formed slots o ≡ true
+none_out slots None e = refl
+none_out slots (Some host) e = absurd (true≢false e)
 
 module _ (u : Unit) (fine : UnitFine u) where
   pub drive_changed : (d : Drive) → drive_well_formed (largest_of u) d ≡ true → map maker_of d.records ≡ map maker_of u.drive.records
@@ -150,17 +148,17 @@ module _ (u : Unit) (fine : UnitFine u) where
     drive = fine.drive;
     slots = simp length-set fine.slots;
     held = fine.held;
-    requests = λ k. set_get (λ (x : HostSlot). slot_well_formed u.drive.records x.slot ≡ true) u.slots host _ empty_slot k ok (fine.requests k);
+    requests = λ k. set_get (λ (x : Slot). slot_well_formed u.drive.records x ≡ true) u.slots host _ Empty k ok (fine.requests k);
     out = none_out _ u.out none;
   }
 
-  pub held_changed : (host : ℕ) (h : Held) → UnitFine (with_held host h u)
+  pub held_changed : (host : ℕ) (h : Option Failure) → UnitFine (with_held host h u)
   held_changed host h =
       record { drive = fine.drive; slots = fine.slots; held = simp length-set fine.held; requests = fine.requests; out = fine.out }
 
-  pub out_changed : (o : Out) → out_well_formed u.slots o ≡ true → UnitFine (with_out o u)
+  pub out_changed : (o : Option ℕ) → out_well_formed u.slots o ≡ true → UnitFine (with_out o u)
   out_changed o ok = record { drive = fine.drive; slots = fine.slots; held = fine.held; requests = fine.requests; out = ok }
 
   pub hosts_cleared : UnitFine (without_hosts u)
   hosts_cleared =
-      record { drive = fine.drive; slots = refl; held = refl; requests = each_request u.drive.records (replicate 4 empty_slot) refl; out = refl }
+      record { drive = fine.drive; slots = refl; held = refl; requests = each_request u.drive.records (replicate 4 Empty) refl; out = refl }

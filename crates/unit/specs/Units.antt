@@ -1,5 +1,5 @@
 -- The unit's record: document 01, "Conditions and settings" (well formed) and "START STOP UNIT" (slots, what is out).
-use Rattle.std.specs.Prelude.{Bool, true, false, ◌&&◌, List, ℕ, eqb, length, get_or, set, replicate}
+use Rattle.std.specs.Prelude.{Bool, true, false, ◌&&◌, List, ℕ, eqb, length, get_or, set, replicate, Some, None, Option}
 use Rattle.rows.specs.Rows.{every_at}
 use Rattle.drive.specs.Records.{largest_timer, unsupported, drive_well_formed}
 use Rattle.conditions.specs.declared.Power.{Power}
@@ -11,22 +11,14 @@ use Rattle.drive.specs.declared.Made.{Made}
 use Rattle.requests.specs.Requests.{request_well_formed}
 use Rattle.unit.specs.declared.Slot.{Slot}
 use Rattle.unit.specs.declared.Slot.TheVariants.{Empty, Waiting}
-use Rattle.unit.specs.declared.HostSlot.{HostSlot}
-use Rattle.unit.specs.declared.Held.{Held}
-use Rattle.unit.specs.declared.Held.TheVariants.{Nothing}
-use Rattle.unit.specs.declared.HostHeld.{HostHeld}
-use Rattle.unit.specs.declared.Out.{Out}
-use Rattle.unit.specs.declared.Out.TheVariants.{NoneOut, OutFor}
 use Rattle.unit.specs.declared.Unit.{Unit}
+use Rattle.requests.specs.declared.Failure.{Failure}
 
 -- ---- reading a host's part
 
 -- "Each host has a slot: nothing waiting, or one operation that carries its own request and progress." A host above 3 has nothing.
-abbrev pub empty_slot : HostSlot
-empty_slot = record { slot = Empty }
-
-abbrev pub slot_of : List HostSlot → ℕ → Slot
-slot_of slots host = (get_or slots host empty_slot).slot
+abbrev pub slot_of : List Slot → ℕ → Slot
+slot_of slots host = get_or slots host Empty
 
 abbrev pub is_waiting : Slot → Bool
 is_waiting Empty = false
@@ -36,21 +28,18 @@ abbrev pub waits : Unit → ℕ → Bool
 waits u host = is_waiting (slot_of u.slots host)
 
 -- The host's held deferred sense.
-abbrev pub none_held : HostHeld
-none_held = record { held = Nothing }
-
-abbrev pub held_of : List HostHeld → ℕ → Held
-held_of helds host = (get_or helds host none_held).held
+abbrev pub held_of : List (Option Failure) → ℕ → Option Failure
+held_of helds host = get_or helds host None
 
 -- "A host asks for its operation's next command; that command is then out until the answer". It is kept as "host h's": which command it
 -- is follows from the slot and the unsaved mark.
-abbrev pub is_out : Out → Bool
-is_out NoneOut = false
-is_out (OutFor host) = true
+abbrev pub is_out : Option ℕ → Bool
+is_out None = false
+is_out (Some host) = true
 
-abbrev pub is_out_for : ℕ → Out → Bool
-is_out_for host NoneOut = false
-is_out_for host (OutFor h) = eqb h host
+abbrev pub is_out_for : ℕ → Option ℕ → Bool
+is_out_for host None = false
+is_out_for host (Some h) = eqb h host
 
 -- ---- well formed
 
@@ -62,18 +51,18 @@ abbrev pub slot_well_formed : List Record → Slot → Bool
 slot_well_formed rs Empty = true
 slot_well_formed rs (Waiting q) = request_well_formed rs q.target q.stage
 
-abbrev pub host_well_formed : List Record → ℕ → HostSlot → Bool
-host_well_formed rs host s = slot_well_formed rs s.slot
+abbrev pub host_well_formed : List Record → ℕ → Slot → Bool
+host_well_formed rs host s = slot_well_formed rs s
 
 -- "hosts 0 to 3". That "a held sense is a failure's", the type `Held` keeps.
-unfoldable pub hosts_well_formed : List Record → List HostSlot → List HostHeld → Bool
+unfoldable pub hosts_well_formed : List Record → List Slot → List (Option Failure) → Bool
 hosts_well_formed rs slots helds =
     eqb (length slots) 4 && eqb (length helds) 4 && every_at (host_well_formed rs) 0 slots
 
 -- "a command out is the one due from a waiting operation".
-abbrev pub out_well_formed : List HostSlot → Out → Bool
-out_well_formed slots NoneOut = true
-out_well_formed slots (OutFor host) = is_waiting (slot_of slots host)
+abbrev pub out_well_formed : List Slot → Option ℕ → Bool
+out_well_formed slots None = true
+out_well_formed slots (Some host) = is_waiting (slot_of slots host)
 
 -- "A record is well formed when:".
 unfoldable pub well_formed : Unit → Bool
@@ -84,7 +73,7 @@ well_formed u =
 
 -- ---- the builders: no other literal of a unit
 
-abbrev pub unit_of : Edition → Drive → Bool → Bool → List HostSlot → List HostHeld → Out → Unit
+abbrev pub unit_of : Edition → Drive → Bool → Bool → List Slot → List (Option Failure) → Option ℕ → Unit
 unit_of e d stopped unsaved slots helds out =
     record { edition = e; drive = d; stopped = stopped; unsaved = unsaved; slots = slots; held = helds; out = out }
 
@@ -102,17 +91,17 @@ abbrev pub with_marks : Bool → Bool → Unit → Unit
 with_marks stopped unsaved u = unit_of u.edition u.drive stopped unsaved u.slots u.held u.out
 
 abbrev pub with_slot : ℕ → Slot → Unit → Unit
-with_slot host s u = unit_of u.edition u.drive u.stopped u.unsaved (set u.slots host (record { slot = s })) u.held u.out
+with_slot host s u = unit_of u.edition u.drive u.stopped u.unsaved (set u.slots host s) u.held u.out
 
-abbrev pub with_held : ℕ → Held → Unit → Unit
-with_held host h u = unit_of u.edition u.drive u.stopped u.unsaved u.slots (set u.held host (record { held = h })) u.out
+abbrev pub with_held : ℕ → Option Failure → Unit → Unit
+with_held host h u = unit_of u.edition u.drive u.stopped u.unsaved u.slots (set u.held host h) u.out
 
-abbrev pub with_out : Out → Unit → Unit
+abbrev pub with_out : Option ℕ → Unit → Unit
 with_out o u = unit_of u.edition u.drive u.stopped u.unsaved u.slots u.held o
 
 -- "no operation, command out, deferred sense": what every reset takes.
 abbrev pub without_hosts : Unit → Unit
-without_hosts u = unit_of u.edition u.drive u.stopped u.unsaved (replicate 4 empty_slot) (replicate 4 none_held) NoneOut
+without_hosts u = unit_of u.edition u.drive u.stopped u.unsaved (replicate 4 Empty) (replicate 4 None) None
 
 -- "sets the idle count to 0".
 abbrev pub rested : Unit → Unit
@@ -123,7 +112,7 @@ rested u = with_drive (restarted u.drive) u
 -- "At manufacture current, saved and default agree": Active, idle count 0, no mark, nothing waiting, held or out. Request (vi): "A unit is of one
 -- edition, fixed at manufacture".
 abbrev pub made_unit : Edition → List Made → Unit
-made_unit e ms = unit_of e (made ms) false false (replicate 4 empty_slot) (replicate 4 none_held) NoneOut
+made_unit e ms = unit_of e (made ms) false false (replicate 4 Empty) (replicate 4 None) None
 
 -- The unit of an edition that supports nothing.
 abbrev pub blank : Edition → Unit

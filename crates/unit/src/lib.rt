@@ -1,8 +1,9 @@
 // The unit's record: its types, how they are read and built, when a record is well formed, a new unit, and the sense of a failure. No call stands here.
 #![tactic(auto)]
 
-ghost use Rattle.std.specs.Prelude.{cond, ◌≡◌, set, replicate};
-ghost use Rattle.unit.specs.Units.{is_out, is_out_for, made_unit, blank, slot_of, is_waiting, held_of, slot_well_formed, hosts_well_formed, out_well_formed, well_formed, largest_of, with_drive, with_marks, with_slot, with_held, with_out, without_hosts, rested, empty_slot, none_held};
+ghost use Rattle.std.specs.Prelude.{cond, ◌≡◌, set, replicate, None};
+ghost use Rattle.unit.specs.Units.{is_out, is_out_for, made_unit, blank, slot_of, is_waiting, held_of, slot_well_formed, hosts_well_formed, out_well_formed, well_formed, largest_of, with_drive, with_marks, with_slot, with_held, with_out, without_hosts, rested};
+ghost use Rattle.unit.specs.declared.Slot.TheVariants.{Empty};
 
 use drive::{Drive, Edition, Made, Millis, Record, Setting, Tenths};
 use requests::{Failure, Request};
@@ -13,30 +14,6 @@ pub enum Slot {
     Waiting(Request),
 }
 
-#[derive(Clone, Copy)]
-pub struct HostSlot {
-    pub slot: Slot,
-}
-
-// A deferred sense that waits for its host: a failure's and no other.
-#[derive(Clone, Copy)]
-pub enum Held {
-    Nothing,
-    Holds(Failure),
-}
-
-#[derive(Clone, Copy)]
-pub struct HostHeld {
-    pub held: Held,
-}
-
-// The host whose operation has a command at the drive.
-#[derive(Clone, Copy)]
-pub enum Out {
-    NoneOut,
-    OutFor(u32),
-}
-
 // The edition is "fixed at manufacture" (document 02, request (vi)): no call changes it.
 #[derive(Clone, Copy)]
 pub struct Unit {
@@ -44,18 +21,18 @@ pub struct Unit {
     pub edition: Edition,
     pub stopped: bool,
     pub unsaved: bool,
-    pub slots: [HostSlot; 4],
-    pub held: [HostHeld; 4],
-    pub out: Out,
+    pub slots: [Slot; 4],
+    // The deferred senses that wait for their hosts: a failure's and no other.
+    pub held: [Option<Failure>; 4],
+    // The host whose operation has a command at the drive.
+    pub out: Option<u32>,
 }
 
-pub fn slot_of(slots: [HostSlot; 4], host: u32) -> Slot
+pub fn slot_of(slots: [Slot; 4], host: u32) -> Slot
     ensures { result ≡ slot_of slots host }
 {
     if host < 4 {
-        let at = host as usize;
-        let s = slots[at];
-        s.slot
+        slots[host as usize]
     } else {
         Slot::Empty
     }
@@ -70,34 +47,22 @@ pub fn is_waiting(s: Slot) -> bool
     }
 }
 
-pub fn held_of(held: [HostHeld; 4], host: u32) -> Held
+pub fn held_of(held: [Option<Failure>; 4], host: u32) -> Option<Failure>
     ensures { result ≡ held_of held host }
 {
-    if host < 4 {
-        let at = host as usize;
-        let h = held[at];
-        h.held
-    } else {
-        Held::Nothing
-    }
+    if host < 4 { held[host as usize] } else { None }
 }
 
-pub fn is_out(o: Out) -> bool
+pub fn is_out(o: Option<u32>) -> bool
     ensures { result ≡ is_out o }
 {
-    match o {
-        Out::NoneOut => false,
-        Out::OutFor(_) => true,
-    }
+    o.is_some()
 }
 
-pub fn is_out_for(host: u32, out: Out) -> bool
+pub fn is_out_for(host: u32, out: Option<u32>) -> bool
     ensures { result ≡ is_out_for host out }
 {
-    match out {
-        Out::NoneOut => false,
-        Out::OutFor(h) => h == host,
-    }
+    out == Some(host)
 }
 
 // The largest timer and the largest idle count of a unit: its edition's.
@@ -121,28 +86,19 @@ fn slot_ok(records: [Record; 5], s: Slot) -> bool
     }
 }
 
-fn hosts_ok(records: [Record; 5], slots: [HostSlot; 4], held: [HostHeld; 4]) -> bool
+fn hosts_ok(records: [Record; 5], slots: [Slot; 4], held: [Option<Failure>; 4]) -> bool
     ensures { result ≡ hosts_well_formed records slots held }
 {
-    let mut ok = true;
-    let mut i = 0;
-    while i < 4 {
-        let h = slots[i];
-        let s = h.slot;
-        let good = slot_ok(records, s);
-        ok = ok & good;
-        i += 1;
-    }
-    ok
+    slots.iter().all(|s| slot_ok(records, *s))
 }
 
 // A command out is the one due from a waiting operation.
-fn out_ok(slots: [HostSlot; 4], out: Out) -> bool
+fn out_ok(slots: [Slot; 4], out: Option<u32>) -> bool
     ensures { result ≡ out_well_formed slots out }
 {
     match out {
-        Out::NoneOut => true,
-        Out::OutFor(host) => is_waiting(slot_of(slots, host)),
+        None => true,
+        Some(host) => is_waiting(slot_of(slots, host)),
     }
 }
 
@@ -175,13 +131,12 @@ pub fn with_marks(u: Unit, stopped: bool, unsaved: bool) -> Unit
     v
 }
 
-fn set_slot(slots: [HostSlot; 4], host: u32, s: Slot) -> [HostSlot; 4]
-    ensures { result ≡ set slots host (record { slot = s }) }
+fn set_slot(slots: [Slot; 4], host: u32, s: Slot) -> [Slot; 4]
+    ensures { result ≡ set slots host s }
 {
     let mut next = slots;
     if host < 4 {
-        let at = host as usize;
-        next[at] = HostSlot { slot: s };
+        next[host as usize] = s;
     }
     next
 }
@@ -196,18 +151,17 @@ pub fn with_slot(u: Unit, host: u32, s: Slot) -> Unit
     v
 }
 
-fn set_held(held: [HostHeld; 4], host: u32, h: Held) -> [HostHeld; 4]
-    ensures { result ≡ set held host (record { held = h }) }
+fn set_held(held: [Option<Failure>; 4], host: u32, h: Option<Failure>) -> [Option<Failure>; 4]
+    ensures { result ≡ set held host h }
 {
     let mut next = held;
     if host < 4 {
-        let at = host as usize;
-        next[at] = HostHeld { held: h };
+        next[host as usize] = h;
     }
     next
 }
 
-pub fn with_held(u: Unit, host: u32, h: Held) -> Unit
+pub fn with_held(u: Unit, host: u32, h: Option<Failure>) -> Unit
     ensures { result ≡ with_held host h u }
 {
     let held = u.held;
@@ -217,8 +171,8 @@ pub fn with_held(u: Unit, host: u32, h: Held) -> Unit
     v
 }
 
-fn set_slot_unless(kept: bool, slots: [HostSlot; 4], host: u32, s: Slot) -> [HostSlot; 4]
-    ensures { result ≡ cond kept slots (set slots host (record { slot = s })) }
+fn set_slot_unless(kept: bool, slots: [Slot; 4], host: u32, s: Slot) -> [Slot; 4]
+    ensures { result ≡ cond kept slots (set slots host s) }
 {
     if kept {
         slots
@@ -238,59 +192,38 @@ pub fn with_slot_unless(u: Unit, kept: bool, host: u32, s: Slot) -> Unit
     v
 }
 
-// A whole literal, since the field is an enum, which is not stored to.
-pub fn with_out(u: Unit, out: Out) -> Unit
+pub fn with_out(u: Unit, out: Option<u32>) -> Unit
     ensures { result ≡ with_out out u }
 {
-    let edition = u.edition;
-    let d = u.drive;
-    let slots = u.slots;
-    let held = u.held;
-    Unit {
-        edition,
-        drive: d,
-        stopped: u.stopped,
-        unsaved: u.unsaved,
-        slots,
-        held,
-        out,
-    }
+    let mut v = u;
+    v.out = out;
+    v
 }
 
-fn out_unless(kept: bool, out: Out, next: Out) -> Out
+fn out_unless(kept: bool, out: Option<u32>, next: Option<u32>) -> Option<u32>
     ensures { result ≡ cond kept out next }
 {
     if kept { out } else { next }
 }
 
 // What is out, unless the record is kept as it is.
-pub fn with_out_unless(u: Unit, kept: bool, next: Out) -> Unit
+pub fn with_out_unless(u: Unit, kept: bool, next: Option<u32>) -> Unit
     ensures { result ≡ cond kept u (with_out next u) }
 {
     let out = u.out;
     with_out(u, out_unless(kept, out, next))
 }
 
-fn no_slots_unless(kept: bool, slots: [HostSlot; 4]) -> [HostSlot; 4]
-    ensures { result ≡ cond kept slots (replicate 4 empty_slot) }
+fn no_slots_unless(kept: bool, slots: [Slot; 4]) -> [Slot; 4]
+    ensures { result ≡ cond kept slots (replicate 4 Empty) }
 {
-    if kept {
-        slots
-    } else {
-        [HostSlot { slot: Slot::Empty }; 4]
-    }
+    if kept { slots } else { [Slot::Empty; 4] }
 }
 
-fn no_held_unless(kept: bool, held: [HostHeld; 4]) -> [HostHeld; 4]
-    ensures { result ≡ cond kept held (replicate 4 none_held) }
+fn no_held_unless(kept: bool, held: [Option<Failure>; 4]) -> [Option<Failure>; 4]
+    ensures { result ≡ cond kept held (replicate 4 None) }
 {
-    if kept {
-        held
-    } else {
-        [HostHeld {
-            held: Held::Nothing,
-        }; 4]
-    }
+    if kept { held } else { [None; 4] }
 }
 
 // What every reset takes, operations, the command out and deferred senses, unless the record is kept as it is.
@@ -304,7 +237,7 @@ pub fn without_hosts_unless(u: Unit, kept: bool) -> Unit
     let mut v = u;
     v.slots = emptied;
     v.held = dropped;
-    with_out_unless(v, kept, Out::NoneOut)
+    with_out_unless(v, kept, None)
 }
 
 // The idle count restarts, unless the record is kept as it is. Power and records stay where they lie.
@@ -328,18 +261,14 @@ pub fn made_unit(edition: Edition, made: [Made; 5]) -> Unit
     ensures { result ≡ made_unit edition made }
 {
     let d = drive::manufacture(made);
-    let slots = [HostSlot { slot: Slot::Empty }; 4];
-    let held = [HostHeld {
-        held: Held::Nothing,
-    }; 4];
     Unit {
         edition,
         drive: d,
         stopped: false,
         unsaved: false,
-        slots,
-        held,
-        out: Out::NoneOut,
+        slots: [Slot::Empty; 4],
+        held: [None; 4],
+        out: None,
     }
 }
 

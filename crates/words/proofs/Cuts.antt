@@ -1,16 +1,14 @@
 -- The first word of a text is the letters behind its blanks, and its other words are those of what follows them:
 -- so it is with the first piece and the letters that a text starts with, and pieces that blanks leave empty are no words.
-use mathlib.Core.Path.{◌≡◌, refl, sym, ◌∙◌}
+use mathlib.Core.Path.{◌≡◌, refl, sym, ap, ◌∙◌}
 use mathlib.Core.Bool.{Bool, true, false}
 use mathlib.Core.List.{List, [], ◌∷◌}
-use Prim.Native.Nat.{ℕ, zero, suc, ◌+◌, ◌-◌, ◌≤◌}
-use native.Mathlib.Nat.{add-zero}
+use Prim.Native.Nat.{ℕ, suc, ◌+◌, ◌-◌, ◌≤◌}
 use native.Mathlib.Omega.{arith}
 use borrow.Author.Tests.{eqb-true}
-use lib.ListN.{length, get_or, take, drop}
-use lib.Seq.{drop-drop, get_or-drop}
-use Rattle.words.specs.Words.{is_blank, is_comment, pieces, nonempty, words, blanks, word_length}
-use Rattle.words.proofs.Scans.{gap, word, scan_within}
+use lib.ListN.{length, take, drop, length-drop, drop_of_length-le}
+use lib.Seq.{drop-drop}
+use Rattle.words.specs.Words.{is_blank, is_comment, onto, pieces, nonempty, words, blanks, word_length, behind_blanks, first_word, behind_word}
 
 -- ---- the three kinds of bytes
 
@@ -78,38 +76,47 @@ unfolding words nonempty word_length
 a_word [] n e = absurd (omega arith)
 a_word (b ∷ l) n e = let p = first_piece (b ∷ l) in rw (p.1, ← p.2, e)
 
--- ---- the next word from a place on
+-- ---- the first word
 
-module _ (l : List ℕ) (from at len : ℕ) (e : at ≡ from + blanks (drop from l)) (k : len ≡ word_length (drop at l)) where
-  -- a word that starts within the text ends within it
-  pub next_within : from ≤ length l → at + len ≤ length l
-  next_within h =
-      let starts : at ≤ length l = rw e (scan_within gap l from h) in
-      rw k (scan_within word l at starts)
+module _ (l : List ℕ) where
+  pub no_first : word_length (behind_blanks l) ≡ 0 → words l ≡ []
+  no_first k = sym (skip l) ∙ no_word (behind_blanks l) (no_more_blanks l) k
 
-  behind : drop at l ≡ drop (blanks (drop from l)) (drop from l)
-  behind = rw (e, drop-drop)
+  pub a_first : (word_length (behind_blanks l) ≡ 0 → ⊥) → words l ≡ first_word l ∷ words (behind_word l)
+  a_first h =
+      let n = word_length (behind_blanks l) in
+      let some : n ≡ suc (n - 1) = omega arith in
+      sym (skip l) ∙ a_word (behind_blanks l) (n - 1) some
 
-  skipped : words (drop from l) ≡ words (drop at l)
-  skipped = rw behind (sym (skip (drop from l)))
+-- ---- word by word
 
-  pub next_none : len ≡ 0 → words (drop from l) ≡ []
-  next_none z = skipped ∙ no_word (drop at l) (rw behind (no_more_blanks (drop from l))) (sym k ∙ z)
+pub none_after : (ws : List (List ℕ)) (i k : ℕ) → i ≤ k → drop i ws ≡ [] → drop k ws ≡ []
+none_after ws i k h e = let none = rw length-drop at (ap length e) in drop_of_length-le ws (omega arith)
 
-  pub next_one : (len ≡ 0 → ⊥) → words (drop from l) ≡ take len (drop at l) ∷ words (drop (at + len) l)
-  next_one h =
-      let some : len ≡ suc (len - 1) = omega arith in
-      rw (← drop-drop, k) (skipped ∙ a_word (drop at l) (len - 1) (sym k ∙ some))
+pub others_after : (ws others : List (List ℕ)) (w : List ℕ) (i : ℕ) → drop i ws ≡ w ∷ others → others ≡ drop (i + 1) ws
+others_after ws others w i e = rw (← drop-drop, e)
 
-  -- it is the next of the words, and the words behind it are the others
-  pub next_nth : (i : ℕ) → words (drop from l) ≡ drop i (words l)
-      → (take len (drop at l) ≡ get_or (words l) i []) × (words (drop (at + len) l) ≡ drop (i + 1) (words l))
-  next_nth i h =
-      let this : get_or (words l) i [] ≡ get_or (words (drop from l)) 0 [] = rw (h, get_or-drop, add-zero) in
-      let others : drop (i + 1) (words l) ≡ drop 1 (words (drop from l)) = rw (h, drop-drop) in
-      rw (this, others) (on len refl)
-    where
-      on : (n : ℕ) → len ≡ n
-          → (take len (drop at l) ≡ get_or (words (drop from l)) 0 []) × (words (drop (at + len) l) ≡ drop 1 (words (drop from l)))
-      on zero z = let none = next_none z in (rw (none, z), rw (none, z, add-zero, ← skipped, none))
-      on (suc n) z = let one = next_one (λ y. omega arith) in (rw one, rw one)
+-- what follows the first word of a tail of a line is a tail of that line
+pub tail_of : (l rest : List ℕ) (n : ℕ) → rest ≡ drop n l → behind_word rest ≡ drop (n + (blanks rest + word_length (behind_blanks rest))) l
+tail_of l rest n e =
+    let skipped = blanks rest in
+    let long = word_length (behind_blanks rest) in
+    ap (λ t. drop long (drop skipped t)) e ∙ rw (drop-drop, drop-drop) refl
+
+-- ---- how many
+
+one_at_most : (b : ℕ) (ps : List (List ℕ)) → length (nonempty (onto b ps)) ≤ suc (length (nonempty ps))
+unfolding nonempty
+one_at_most b [] = omega arith
+one_at_most b ([] ∷ ps) = omega arith
+one_at_most b ((c ∷ p) ∷ ps) = omega arith
+
+pub words_within : (l : List ℕ) → length (words l) ≤ length l
+unfolding words pieces nonempty
+words_within [] = omega arith
+words_within (b ∷ l) = step (kind b) (words_within l)
+  where
+    step : Kind b → length (words l) ≤ length l → length (words (b ∷ l)) ≤ suc (length l)
+    step (comment e f) h = rw e (omega arith)
+    step (blank e f) h = rw (e, f) (omega arith)
+    step (letter e f) h = rw (e, f) (omega (arith, one_at_most b (pieces l)))

@@ -1,6 +1,6 @@
 pub mod Cuts
 pub mod Ends
+pub mod Places
 pub mod Room
-pub mod Same
 pub mod Scans
 pub mod Values

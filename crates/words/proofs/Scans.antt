@@ -1,20 +1,20 @@
--- A scan counts the bytes before the first that stops it: from the place i on it goes one byte further, or it ends there.
-use mathlib.Core.Path.{◌≡◌, refl}
-use mathlib.Core.Bool.{Bool, true, false, cond, not, ◌||◌}
+-- A scan counts the bytes before the first that stops it, as the library's `position` does.
+use mathlib.Core.Path.{◌≡◌, refl, sym, ap, ◌∙◌}
+use mathlib.Core.Bool.{Bool, true, false, cond, not}
 use mathlib.Core.List.{List, [], ◌∷◌}
 use Prim.Native.Char.{code}
-use Prim.Native.Nat.{ℕ, suc, ◌+◌, ◌<◌, ◌≤◌}
-use native.Mathlib.Nat.{add-zero, add-suc, suc-add}
-use native.Mathlib.Numerals.{add-one}
+use Prim.Native.Nat.{ℕ, suc, ◌+◌, ◌≤◌}
+use native.Mathlib.Numerals.{one-add}
 use native.Mathlib.Omega.{arith}
-use lib.Dec.{eqb}
-use lib.ListN.{length, get_or, drop, drop_of_length-le, length-drop}
-use lib.Seq.{drop-cons}
+use borrow.Author.Tests.{ltb-false}
+use lib.Dec.{eqb, ltb}
+use lib.ListN.{length, drop, length-drop}
+use Rattle.std.proofs.Common.{Option, Some, None}
+use Rattle.std.specs.List.{position_or_len}
+use Rattle.std.specs.Option.{unwrap_or}
+use Rattle.std.proofs.lemmas.List.Recursion.{is_position_or_len}
 use Rattle.words.specs.Lines.{before_feed}
-use Rattle.words.specs.Scans.{stops_at, bytes_before}
-use Rattle.words.specs.Words.{is_blank, is_comment, blanks, word_length}
-use Rattle.words.specs.declared.Seek.{Seek}
-use Rattle.words.specs.declared.Seek.TheVariants.{LineEnd, WordStart, WordEnd}
+use Rattle.words.specs.Words.{is_blank, ends_word, blanks, word_length}
 
 pub record Scan (f : List ℕ → ℕ) (stops : ℕ → Bool) : Type 0 where
   pub none : f [] ≡ 0
@@ -24,7 +24,7 @@ pub feed : Scan before_feed (λ b. eqb b (code "\n"))
 unfolding before_feed
 feed = record { none = refl; more = λ b bs. refl }
 
-pub word : Scan word_length (λ b. is_blank b || is_comment b)
+pub word : Scan word_length ends_word
 unfolding word_length
 word = record { none = refl; more = λ b bs. refl }
 
@@ -36,20 +36,9 @@ pub gap : Scan blanks (λ b. not (is_blank b))
 unfolding blanks
 gap = record { none = refl; more = λ b bs. swapped (is_blank b) (suc (blanks bs)) 0 }
 
-pub seeks : (seek : Seek) → Scan (bytes_before seek) (stops_at seek)
-seeks LineEnd = feed
-seeks WordStart = gap
-seeks WordEnd = word
-
 module _ {f : List ℕ → ℕ} {stops : ℕ → Bool} (s : Scan f stops) where
-  pub scan_end : (l : List ℕ) (i : ℕ) → length l ≤ i → i ≡ i + f (drop i l)
-  scan_end l i h = rw (drop_of_length-le l h, s.none, add-zero)
-
-  pub scan_stop : (l : List ℕ) (i : ℕ) → i < length l → stops (get_or l i 0) ≡ true → i ≡ i + f (drop i l)
-  scan_stop l i h e = rw (drop-cons l i 0 h, s.more, e, add-zero)
-
-  pub scan_on : (l : List ℕ) (i : ℕ) → i < length l → stops (get_or l i 0) ≡ false → i + 1 + f (drop (i + 1) l) ≡ i + f (drop i l)
-  scan_on l i h e = rw (add-one, drop-cons l i 0 h, s.more, e, suc-add, add-suc)
+  pub scanned : (l : List ℕ) → f l ≡ position_or_len stops l
+  scanned = is_position_or_len f stops s.none (λ b bs. s.more b bs ∙ ap (cond (stops b) 0) (sym (one-add (f bs))))
 
   scan_length : (l : List ℕ) → f l ≤ length l
   scan_length [] = rw s.none (omega arith)
@@ -58,6 +47,16 @@ module _ {f : List ℕ → ℕ} {stops : ℕ → Bool} (s : Scan f stops) where
       on : (t : Bool) → f bs ≤ length bs → cond t 0 (suc (f bs)) ≤ suc (length bs)
       on true h = omega arith
       on false h = omega arith
+
+  -- what the chain finds, or the end
+  pub found : (l : List ℕ) (r : Option ℕ) → r ≡ cond (ltb (position_or_len stops l) (length l)) (Some (position_or_len stops l)) None
+      → (unwrap_or r (length l) ≡ f l) × (unwrap_or r (length l) ≤ length l)
+  found l r e = let n = scanned l in rw (e, ← n) (on (scan_length l) (ltb (f l) (length l)) refl)
+    where
+      on : f l ≤ length l → (t : Bool) → ltb (f l) (length l) ≡ t
+          → (unwrap_or (cond t (Some (f l)) None) (length l) ≡ f l) × (unwrap_or (cond t (Some (f l)) None) (length l) ≤ length l)
+      on most true h = (refl, most)
+      on most false h = let past = ltb-false _ _ h in (omega arith, omega arith)
 
   -- a scan that starts within the text ends within it
   pub scan_within : (l : List ℕ) (i : ℕ) → i ≤ length l → i + f (drop i l) ≤ length l

@@ -5,15 +5,25 @@ use mathlib.Core.List.{List}
 use Prim.Native.Nat.{ℕ, ◌+◌, ◌*◌, ◌^◌, ◌<◌, ◌≤◌}
 use native.Mathlib.Numerals.{add-one}
 use native.Mathlib.Omega.{arith}
-use borrow.Author.Tests.{leb-true, lt-ltb, le-ltb, le-leb, lt-leb}
+use borrow.Author.Tests.{leb-true, ltb-true, ltb-false, lt-ltb, le-ltb, le-leb, lt-leb}
 use lib.Dec.{leb}
 use lib.ListN.{length, get_or, drop, drop_of_length-le}
 use lib.Pow.{pow-add, pow_mono}
 use lib.Seq.{drop-cons}
-use Rattle.words.specs.Numbers.{is_between, digit_of, are_digits, value_after, value_of, number, no_number, is_number, word_number}
+use Rattle.std.proofs.Common.{Option, Some, None, IfSome, MatchOption}
+use Rattle.words.specs.Numbers.{is_between, digit_of, is_digit, digit_in, are_digits, value_after, value_of, is_number, word_number}
 
 pub in_range : (first last b : ℕ) → is_between first last b ≡ true → (first ≤ b) × (b ≤ last)
 in_range first last b e = let both = (and-eq-true_iff (leb first b) (leb b last)).0 e in (leb-true _ _ both.0, leb-true _ _ both.1)
+
+-- ---- one digit
+
+pub read_digit : (b : ℕ) (r : Option ℕ) → r ≡ digit_in b → MatchOption r (16 ≤ digit_of b) (λ d. (digit_of b < 16) × (d ≡ digit_of b))
+read_digit b r e = rw e (on (is_digit b) refl)
+  where
+    on : (t : Bool) → is_digit b ≡ t → MatchOption (cond t (Some (digit_of b)) None) (16 ≤ digit_of b) (λ d. (digit_of b < 16) × (d ≡ digit_of b))
+    on true h = (ltb-true (digit_of b) 16 h, refl)
+    on false h = ltb-false (digit_of b) 16 h
 
 -- ---- the digits that are left
 
@@ -46,29 +56,32 @@ below_all value i h k = let most = pow_mono {i = 4 * i} {j = 32} (omega arith) i
 -- ---- what a word spells
 
 module _ (top : ℕ) (w : List ℕ) where
-  pub not_length : is_between 1 8 (length w) ≡ false → word_number top w ≡ no_number
+  pub not_length : is_between 1 8 (length w) ≡ false → word_number top w ≡ None
   unfolding word_number is_number
   not_length e = rw e
 
-  pub not_digits : are_digits w ≡ false → word_number top w ≡ no_number
+  pub not_digits : are_digits w ≡ false → word_number top w ≡ None
   unfolding word_number is_number
   not_digits e = rw (e, and-false)
 
-  pub too_large : top < value_of w → word_number top w ≡ no_number
+  pub too_large : top < value_of w → word_number top w ≡ None
   unfolding word_number is_number
   too_large h = rw (lt-leb _ _ h, and-false)
 
-  pub spelled : is_between 1 8 (length w) ≡ true → are_digits w ≡ true → value_of w ≤ top → word_number top w ≡ number (value_of w)
+  pub spelled : is_between 1 8 (length w) ≡ true → are_digits w ≡ true → value_of w ≤ top → word_number top w ≡ Some (value_of w)
   unfolding word_number is_number
   spelled e f h = rw (e, f, le-leb _ _ h)
 
   -- no number that is read is above the top
-  pub at_most : (word_number top w).value ≤ top
+  pub at_most : IfSome (word_number top w) (λ n. n ≤ top)
   unfolding word_number is_number
   at_most = on (is_number top w) refl
     where
-      on : (b : Bool) → is_number top w ≡ b → (cond b (number (value_of w)) no_number).value ≤ top
+      on : (b : Bool) → is_number top w ≡ b → IfSome (cond b (Some (value_of w)) None) (λ n. n ≤ top)
       on true e =
           let both = (and-eq-true_iff (is_between 1 8 (length w) && are_digits w) (leb (value_of w) top)).0 e in
           leb-true (value_of w) top both.1
-      on false e = omega arith
+      on false e = tt
+
+pub within : (top : ℕ) (w : List ℕ) (n : ℕ) → Some n ≡ word_number top w → n ≤ top
+within top w n e = rw (← e) at (at_most top w)

@@ -2,5 +2,4 @@ pub mod Codes
 pub mod Fields
 pub mod Lines
 pub mod Numbers
-pub mod Scans
 pub mod Words

@@ -1,10 +1,9 @@
 -- The format page: "All numbers, in and out, are hex without prefix unless this page says decimal". Assumes nothing.
-use Rattle.std.specs.Prelude.{Bool, true, false, cond, ◌&&◌, List, [], ◌∷◌, ℕ, ◌+◌, ◌-◌, ◌*◌, eqb, leb, ltb, length}
+use Rattle.std.specs.Prelude.{Bool, true, cond, Option, Some, None, ◌&&◌, List, [], ◌∷◌, ℕ, ◌+◌, ◌-◌, ◌*◌, eqb, leb, ltb, length}
 use Prim.Native.Char.{code}
+use Rattle.std.specs.Option.{option_map}
 use Rattle.words.specs.Codes.{codes}
 use Rattle.words.specs.Words.{place_in}
-use Rattle.words.specs.declared.Flag.{Flag}
-use Rattle.words.specs.declared.Number.{Number}
 
 -- A byte from the first letter to the last.
 abbrev pub is_between : ℕ → ℕ → ℕ → Bool
@@ -20,6 +19,9 @@ digit_of b =
 abbrev pub is_digit : ℕ → Bool
 is_digit b = ltb (digit_of b) 16
 
+abbrev pub digit_in : ℕ → Option ℕ
+digit_in b = cond (is_digit b) (Some (digit_of b)) None
+
 unfoldable pub are_digits : List ℕ → Bool
 are_digits [] = true
 are_digits (b ∷ bs) = is_digit b && are_digits bs
@@ -32,22 +34,13 @@ value_after n (b ∷ bs) = value_after (16 * n + digit_of b) bs
 abbrev pub value_of : List ℕ → ℕ
 value_of w = value_after 0 w
 
-abbrev pub number : ℕ → Number
-number n = record { good = true; value = n }
-
-abbrev pub no_number : Number
-no_number = record { good = false; value = 0 }
-
 -- "input has 1 to 8 digits"; "a number out of its range" is none.
 unfoldable pub is_number : ℕ → List ℕ → Bool
 is_number top w = is_between 1 8 (length w) && are_digits w && leb (value_of w) top
 
-unfoldable pub word_number : ℕ → List ℕ → Number
-word_number top w = cond (is_number top w) (number (value_of w)) no_number
+unfoldable pub word_number : ℕ → List ℕ → Option ℕ
+word_number top w = cond (is_number top w) (Some (value_of w)) None
 
 -- "A flag is exactly `0` or `1`."
-abbrev pub flag_from : ℕ → Flag
-flag_from place = record { good = ltb place 2; value = eqb place 1 }
-
-unfoldable pub word_flag : List ℕ → Flag
-word_flag w = flag_from (place_in w (codes "0" ∷ codes "1" ∷ []))
+unfoldable pub word_flag : List ℕ → Option Bool
+word_flag w = option_map (λ place. eqb place 1) (place_in w (codes "0" ∷ codes "1" ∷ []))

@@ -1,7 +1,8 @@
 -- The format page, "Lines and words": the words of a line. Assumes nothing.
-use Rattle.std.specs.Prelude.{Bool, true, false, cond, ◌||◌, List, [], ◌∷◌, ℕ, suc, eqb, drop, get_or, take}
+use Rattle.std.specs.Prelude.{Bool, true, false, cond, ◌||◌, Option, Some, None, List, [], ◌∷◌, ℕ, suc, eqb, drop, get_or, take}
 use Prim.Native.Char.{code}
-use Rattle.words.specs.declared.Word.{Word}
+use Rattle.std.specs.Option.{option_map}
+use Rattle.std.specs.Str.{bytes_eq}
 
 -- "Words are separated by spaces and tabs".
 abbrev pub is_blank : ℕ → Bool
@@ -37,9 +38,8 @@ words line = nonempty (pieces line)
 unfoldable pub word_at : ℕ → List ℕ → List ℕ
 word_at k line = get_or (words line) k []
 
--- The bytes that a place and a length stand for.
-abbrev pub bytes_at : Word → List ℕ → List ℕ
-bytes_at w line = take w.len (drop w.at line)
+abbrev pub ends_word : ℕ → Bool
+ends_word b = is_blank b || is_comment b
 
 -- How many blanks a text starts with, and how many bytes of a word.
 unfoldable pub blanks : List ℕ → ℕ
@@ -48,17 +48,24 @@ blanks (b ∷ bs) = cond (is_blank b) (suc (blanks bs)) 0
 
 unfoldable pub word_length : List ℕ → ℕ
 word_length [] = 0
-word_length (b ∷ bs) = cond (is_blank b || is_comment b) 0 (suc (word_length bs))
+word_length (b ∷ bs) = cond (ends_word b) 0 (suc (word_length bs))
+
+abbrev pub behind_blanks : List ℕ → List ℕ
+behind_blanks line = drop (blanks line) line
+
+-- The first word, empty where there is none, and what follows it.
+abbrev pub first_word : List ℕ → List ℕ
+first_word line = take (word_length (behind_blanks line)) (behind_blanks line)
+
+abbrev pub behind_word : List ℕ → List ℕ
+behind_word line = drop (word_length (behind_blanks line)) (behind_blanks line)
 
 -- ---- names
 
 abbrev pub same : List ℕ → List ℕ → Bool
-same [] [] = true
-same [] (c ∷ cs) = false
-same (b ∷ bs) [] = false
-same (b ∷ bs) (c ∷ cs) = cond (eqb b c) (same bs cs) false
+same a b = bytes_eq a b
 
--- The place of a word among names, from 0; their number where it is none of them.
-unfoldable pub place_in : List ℕ → List (List ℕ) → ℕ
-place_in w [] = 0
-place_in w (n ∷ ns) = cond (same w n) 0 (suc (place_in w ns))
+-- The place of a word among names, from 0, if it is one of them.
+unfoldable pub place_in : List ℕ → List (List ℕ) → Option ℕ
+place_in w [] = None
+place_in w (n ∷ ns) = cond (same w n) (Some 0) (option_map suc (place_in w ns))

@@ -1,75 +1,44 @@
 // A script's text: lines, words, and the numbers, flags and names that words spell.
 #![tactic(auto)]
 
-ghost use Rattle.std.specs.Prelude.{◌≡◌, ◌+◌, ◌≤◌, min, drop, length, take, ◌++◌};
+ghost use Rattle.std.specs.Prelude.{◌≡◌, ℕ, ◌+◌, ◌≤◌, ◌∷◌, [], MatchOption, drop, length, take, ◌++◌};
+ghost use Rattle.std.specs.Iterator.{YieldsFirstRef, item_count};
 ghost use Rattle.words.specs.Lines.{before_feed, before_return};
-ghost use Rattle.words.specs.Numbers.{digit_of, word_number, word_flag};
-ghost use Rattle.words.specs.Scans.{stops_at, bytes_before};
-ghost use Rattle.words.specs.Words;
-ghost use Rattle.words.specs.Words.{is_blank, blanks, word_length, words, word_at, bytes_at, place_in};
+ghost use Rattle.words.specs.Numbers.{digit_in, word_number, word_flag};
+ghost use Rattle.words.specs.Words.{is_blank, ends_word, blanks, word_length, first_word, behind_word, words, word_at, place_in};
 
-// A word's place in its line and its length; of a word that is not there the length is 0.
-#[derive(Clone, Copy)]
-pub struct Word {
-    pub at: usize,
-    pub len: usize,
-}
+// The words of a line, from the first on.
+#[derive(Drop)]
+pub struct Words<'a>(pub &'a [u8]);
 
-// A number as a word spells it, if it spells one that is in range.
-#[derive(Clone, Copy)]
-pub struct Number {
-    pub good: bool,
-    pub value: u32,
-}
+impl<'a> Iterator for Words<'a> {
+    type Item = &'a [u8];
 
-#[derive(Clone, Copy)]
-pub struct Byte {
-    pub good: bool,
-    pub value: u8,
-}
+    ghost next_gives = { YieldsFirstRef (λ s. words s.0.now) };
 
-#[derive(Clone, Copy)]
-pub struct Flag {
-    pub good: bool,
-    pub value: bool,
-}
+    ghost remaining = { item_count (λ s. words s.0.now) };
 
-// What a scan of a text looks for: an LF; a byte that is no blank; a byte that belongs to no word.
-#[derive(Clone, Copy)]
-pub enum Seek {
-    LineEnd,
-    WordStart,
-    WordEnd,
+    fn next(&mut self) -> Option<&'a [u8]> {
+        let (word, others) = first_word(self.0)?;
+        self.0 = others;
+        Some(word)
+    }
 }
 
 // The length of a line without the CR at its end.
 pub fn without_return(line: &[u8]) -> usize
     ensures { (result ≡ before_return line.now) × (result ≤ length line.now) }
 {
-    let n = line.len();
-    if n == 0 {
-        return 0;
-    }
-    if line[n - 1] == b'\r' { n - 1 } else { n }
-}
-
-pub fn smaller(a: usize, b: usize) -> usize
-    ensures { result ≡ min a b }
-{
-    if a < b { a } else { b }
+    line.strip_suffix(b"\r").unwrap_or(line).len()
 }
 
 // Adds bytes to the `len` that `line` has, as many as it has room for, and answers how many it has then.
 pub fn append(line: &mut [u8], len: usize, more: &[u8]) -> usize
     ensures { (take result line.new ≡ take (length line.old) (take len line.old ++ more.now)) × (result ≤ length line.new) }
 {
-    let start = smaller(len, line.len());
-    let count = smaller(line.len() - start, more.len());
-    let mut i = 0;
-    while i < count {
-        line[start + i] = more[i];
-        i += 1;
-    }
+    let start = len.min(line.len());
+    let count = (line.len() - start).min(more.len());
+    line[start..start + count].copy_from_slice(&more[..count]);
     start + count
 }
 
@@ -79,205 +48,147 @@ fn is_blank(b: u8) -> bool
     (b == b' ') | (b == b'\t')
 }
 
-// Whether a scan ends at this byte.
-fn stops(seek: Seek, b: u8) -> bool
-    ensures { result ≡ stops_at seek b }
+// Whether a byte belongs to no word.
+fn ends_word(b: u8) -> bool
+    ensures { result ≡ ends_word b }
 {
-    match seek {
-        Seek::LineEnd => b == b'\n',
-        Seek::WordStart => !is_blank(b),
-        Seek::WordEnd => is_blank(b) | (b == b'#'),
-    }
-}
-
-// The place from `from` on of what is looked for, or the end.
-fn scan(text: &[u8], from: usize, seek: Seek) -> usize
-    ensures { result ≡ from + bytes_before seek (drop from text.now) }
-{
-    let mut i = from;
-    while i < text.len() {
-        if stops(seek, text[i]) {
-            return i;
-        }
-        i += 1;
-    }
-    i
+    is_blank(b) | (b == b'#')
 }
 
 // The place of the next LF from `from` on, or the end.
 pub fn line_end(text: &[u8], from: usize) -> usize
     ensures { result ≡ from + before_feed (drop from text.now) }
 {
-    scan(text, from, Seek::LineEnd)
-}
-
-// The first word from `from` on.
-pub fn next_word(line: &[u8], from: usize) -> Word
-    ensures { (result.at ≡ from + blanks (drop from line.now)) × (result.len ≡ word_length (drop result.at line.now)) }
-{
-    let at = scan(line, from, Seek::WordStart);
-    let end = scan(line, at, Seek::WordEnd);
-    Word { at, len: end - at }
-}
-
-// The place behind the first k words.
-pub fn after_words(line: &[u8], k: usize) -> usize
-    ensures { (words (drop result line.now) ≡ drop k (words line.now)) × (result ≤ length line.now) }
-{
-    let mut from = 0;
-    let mut i = 0;
-    while i < k {
-        let w = next_word(line, from);
-        from = w.at + w.len;
-        i += 1;
+    match text.iter().skip(from).position(|b| *b == b'\n') {
+        Some(n) => from + n,
+        None => from.max(text.len()),
     }
-    from
 }
 
-// The word of that number, from 0.
-fn word_at(line: &[u8], k: usize) -> Word
-    ensures { (bytes_at result line.now ≡ word_at k line.now) × (result.at + result.len ≤ length line.now) }
+// How many blanks a text starts with.
+fn blanks(text: &[u8]) -> usize
+    ensures { (result ≡ blanks text.now) × (result ≤ length text.now) }
 {
-    next_word(line, after_words(line, k))
+    text.iter()
+        .position(|b| !is_blank(*b))
+        .unwrap_or(text.len())
+}
+
+// How many bytes of a word a text starts with.
+fn word_length(text: &[u8]) -> usize
+    ensures { (result ≡ word_length text.now) × (result ≤ length text.now) }
+{
+    text.iter()
+        .position(|b| ends_word(*b))
+        .unwrap_or(text.len())
+}
+
+// The first word of a line and what follows it, if it has a word.
+pub fn first_word(line: &[u8]) -> Option<(&[u8], &[u8])>
+    ensures cases { MatchOption result (words line.now ≡ []) (λ p. words line.now ≡ p.0.now ∷ words p.1.now) }
+    ensures places { MatchOption result (first_word line.now ≡ []) (λ p. (p.0.now ≡ first_word line.now) × (p.1.now ≡ behind_word line.now)) }
+{
+    let (_, text) = line.split_at(blanks(line));
+    let len = word_length(text);
+    if len == 0 {
+        return None;
+    }
+    Some(text.split_at(len))
+}
+
+// What follows the first k words.
+pub fn after_words(line: &[u8], k: usize) -> &[u8]
+    ensures others { words result.now ≡ drop k (words line.now) }
+    ensures tail { (n : ℕ) × (result.now ≡ drop n line.now) }
+{
+    let mut rest = line;
+    for _ in 0..k {
+        match first_word(rest) {
+            Some((_, others)) => rest = others,
+            None => return rest,
+        }
+    }
+    rest
+}
+
+// The word of that number, from 0; empty where the line has no such word.
+fn word_at(line: &[u8], k: usize) -> &[u8]
+    ensures { result.now ≡ word_at k line.now }
+{
+    Words(line).nth(k).unwrap_or(&[])
 }
 
 // How many words the line has.
+#[tactic(auto, using(crate::proofs::Cuts::words_within))]
 pub fn word_count(line: &[u8]) -> usize
     ensures { result ≡ length (words line.now) }
 {
-    let mut count = 0;
-    let mut from = 0;
-    loop {
-        let w = next_word(line, from);
-        if w.len == 0 {
-            return count;
-        }
-        from = w.at + w.len;
-        count += 1;
-    }
+    Words(line).count()
 }
 
-fn are_same(a: &[u8], b: &[u8]) -> bool
-    ensures { result ≡ Words.same a.now b.now }
-{
-    if a.len() != b.len() {
-        return false;
-    }
-    let mut i = 0;
-    while i < a.len() {
-        if a[i] != b[i] {
-            return false;
-        }
-        i += 1;
-    }
-    true
-}
-
-// The place of a word among names, which are words of a text themselves; their number if it is none of them.
-fn place_in(w: &[u8], names: &[u8]) -> usize
+// The place of a word among names, which are words of a text themselves, if it is one of them.
+fn place_in(w: &[u8], names: &[u8]) -> Option<usize>
     ensures { result ≡ place_in w.now (words names.now) }
 {
-    let mut place = 0;
-    let mut from = 0;
-    loop {
-        let n = next_word(names, from);
-        let at = n.at;
-        let end = n.at + n.len;
-        if n.len == 0 {
-            return place;
-        }
-        if are_same(w, &names[at..end]) {
-            return place;
-        }
-        from = end;
-        place += 1;
-    }
+    Words(names).position(|n| w == n)
 }
 
 // Which of the names the word of that number is.
-pub fn name_at(line: &[u8], k: usize, names: &[u8]) -> usize
+pub fn name_at(line: &[u8], k: usize, names: &[u8]) -> Option<usize>
     ensures { result ≡ place_in (word_at k line.now) (words names.now) }
 {
-    let w = word_at(line, k);
-    let at = w.at;
-    let end = w.at + w.len;
-    place_in(&line[at..end], names)
+    place_in(word_at(line, k), names)
 }
 
-// What a hex digit of either case stands for, or 16.
-fn digit(b: u8) -> u32
-    ensures { (result ≡ digit_of b) × (result ≤ 16) }
+// What a hex digit of either case stands for.
+fn digit(b: u8) -> Option<u32>
+    ensures { result ≡ digit_in b }
 {
-    if (b'0' <= b) & (b <= b'9') {
-        return (b - b'0') as u32;
+    match b {
+        b'0'..=b'9' => Some((b - b'0') as u32),
+        b'A'..=b'F' => Some((b - b'A') as u32 + 10),
+        b'a'..=b'f' => Some((b - b'a') as u32 + 10),
+        _ => None,
     }
-    if (b'A' <= b) & (b <= b'F') {
-        return (b - b'A') as u32 + 10;
-    }
-    if (b'a' <= b) & (b <= b'f') {
-        return (b - b'a') as u32 + 10;
-    }
-    16
 }
 
 // The number that these bytes spell, if it is at most `top`.
-pub fn hex(w: &[u8], top: u32) -> Number
+pub fn hex(w: &[u8], top: u32) -> Option<u32>
     ensures { result ≡ word_number top w.now }
 {
-    let none = Number {
-        good: false,
-        value: 0,
-    };
     let n = w.len();
     if !((1 <= n) & (n <= 8)) {
-        return none;
+        return None;
     }
     let mut value: u64 = 0;
-    let mut i = 0;
-    while i < n {
-        let d = digit(w[i]);
-        if d == 16 {
-            return none;
-        }
-        value = value * 16 + d as u64;
-        i += 1;
+    for b in w {
+        value = value * 16 + digit(*b)? as u64;
     }
     if value > top as u64 {
-        return none;
+        return None;
     }
-    Number {
-        good: true,
-        value: value as u32,
-    }
+    Some(value as u32)
 }
 
 // The number that the word of that number spells.
-pub fn number_at(line: &[u8], k: usize, top: u32) -> Number
+pub fn number_at(line: &[u8], k: usize, top: u32) -> Option<u32>
     ensures { result ≡ word_number top (word_at k line.now) }
 {
-    let w = word_at(line, k);
-    let at = w.at;
-    let end = w.at + w.len;
-    hex(&line[at..end], top)
+    hex(word_at(line, k), top)
 }
 
 // The byte that it spells.
-pub fn byte_at(line: &[u8], k: usize) -> Byte
-    ensures { (result.good ≡ (word_number 0xFF (word_at k line.now)).good) × (result.value ≡ (word_number 0xFF (word_at k line.now)).value) }
+#[tactic(auto, using(crate::proofs::Values::within))]
+pub fn byte_at(line: &[u8], k: usize) -> Option<u8>
+    ensures { result ≡ word_number 0xFF (word_at k line.now) }
 {
-    let n = number_at(line, k, 0xFF);
-    Byte {
-        good: n.good,
-        value: n.value as u8,
-    }
+    let n = number_at(line, k, 0xFF)?;
+    Some(n as u8)
 }
 
-pub fn flag_at(line: &[u8], k: usize) -> Flag
+#[tactic(auto, unfolding(crate::specs::Numbers::word_flag, crate::specs::Words::words, crate::specs::Words::pieces, crate::specs::Words::nonempty))]
+pub fn flag_at(line: &[u8], k: usize) -> Option<bool>
     ensures { result ≡ word_flag (word_at k line.now) }
 {
-    let place = name_at(line, k, b"0 1");
-    Flag {
-        good: place < 2,
-        value: place == 1,
-    }
+    name_at(line, k, b"0 1").map(|place| place == 1)
 }

@@ -1,34 +1,57 @@
--- At each turn the bytes so far and the words from `len` on make the CDB. As long as all is well there are at most 42 words, so that the bytes
--- have room. The measure is the number of words left.
-use mathlib.Core.Path.{refl, ◌∙◌}
-use mathlib.Core.Bool.{and-eq-true_iff}
-use Prim.Native.Nat.{◌+◌, ◌<◌}
+-- At each turn the bytes so far and the words from `i` on make the CDB, and the line is one if all of these words are bytes.
+use mathlib.Core.Path.{◌≡◌, refl, sym, ◌∙◌}
+use Prim.Native.Nat.{◌+◌, ◌<◌, ◌≤◌}
 use native.Mathlib.Omega.{arith}
-use borrow.Author.Tests.{leb-true, ltb-true}
-use lib.Dec.{ltb}
-use lib.ListN.{length-drop, length-set}
+use borrow.Author.Tests.{le-leb, lt-leb}
+use lib.ListN.{length, take, length-drop, length-set}
+use Rattle.words.specs.Words.{words}
 use Rattle.commands.specs.Commands.{byte_words, cdb_in, is_cdb}
-use Rattle.commands.proofs.Cdbs.{byte_word, one_more_lem}
+use Rattle.commands.proofs.Cdbs.{byte_word, next_word, no_more}
 use Rattle.commands.proofs.cdb_in.Goals as goal
 
-pub loop-good-init : goal.loop-good-init
-unfolding is_cdb cdb_in
-loop-good-init c = let n = c.word_count-n.ensures in
-    (rw n, rw n, λ e. rw (← n) (leb-true _ _ e), omega arith, refl)
+pub returns-then-len-gt40-clause-spelled : goal.returns-then-len-gt40-clause-spelled
+unfolding is_cdb
+returns-then-len-gt40-clause-spelled c = rw (lt-leb (length (words c.args.line.now)) 42 (omega arith)) refl
 
-pub loop-good-preserved : goal.loop-good-preserved
-loop-good-preserved c = let line = c.args.line.now in
-    -- in the loop all is well, and there is one word more
-    let both = (and-eq-true_iff c.loop-good.good (ltb (c.loop-good.len + 2) c.word_count-n.result)).0 c.loop-good-test.true in
-    let less : c.loop-good.len + 2 < c.word_count-n.result = ltb-true _ _ both.1 in
-    let few = c.loop-good.invariant.2 both.0 in
-    let word = byte_word line c.loop-good.len in
-    let step =
-    one_more_lem c.loop-good.bytes (byte_words line) c.loop-good.len (rw length-drop (omega arith)) (omega arith) in
-    let b = c.byte_at-b.ensures in (
-      rw (b.0, word) ((rw both.0 at c.loop-good.invariant.0) ∙ step.0),
-      rw (b.0, b.1, word) ((rw both.0 at c.loop-good.invariant.1) ∙ step.1),
-      λ e. few,
-      omega arith,
-      simp (length-set, c.loop-good.invariant.4),
-    )
+pub returns-then-len-gt40-clause-told : goal.returns-then-len-gt40-clause-told
+unfolding is_cdb cdb_in
+returns-then-len-gt40-clause-told c = rw (lt-leb (length (words c.args.line.now)) 42 (omega arith)) refl
+
+pub loop-i-init : goal.loop-i-init
+unfolding is_cdb
+loop-i-init c = (rw (le-leb (length (words c.args.line.now)) 42 (omega arith)) refl, refl, refl)
+
+pub returns-in_err-bytes-clause-spelled : goal.returns-in_err-bytes-clause-spelled
+returns-in_err-bytes-clause-spelled c =
+    let line = c.args.line.now in
+    let step = next_word c.loop-i.bytes (byte_words line) c.loop-i.i (rw length-drop (omega arith)) (omega arith) in
+    let none = rw (← byte_word line c.loop-i.i, ← c.byte_at.ensures, c.in_err-bytes.was) at step in
+    rw c.from_residual.ensures (sym (c.loop-i.invariant.0 ∙ none))
+
+pub returns-in_err-bytes-clause-told : goal.returns-in_err-bytes-clause-told
+unfolding cdb_in
+returns-in_err-bytes-clause-told c =
+    let line = c.args.line.now in
+    let step = next_word c.loop-i.bytes (byte_words line) c.loop-i.i (rw length-drop (omega arith)) (omega arith) in
+    let none = rw (← byte_word line c.loop-i.i, ← c.byte_at.ensures, c.in_err-bytes.was) at step in
+    rw (c.from_residual.ensures, c.loop-i.invariant.0 ∙ none) refl
+
+pub loop-i-preserved : goal.loop-i-preserved
+loop-i-preserved c =
+    let line = c.args.line.now in
+    let step = next_word c.loop-i.bytes (byte_words line) c.loop-i.i (rw length-drop (omega arith)) (omega arith) in
+    let next = rw (← byte_word line c.loop-i.i, ← c.byte_at.ensures, c.in_ok-bytes.was) at step in
+    (c.loop-i.invariant.0 ∙ next.0, c.loop-i.invariant.1 ∙ next.1, simp (length-set, c.loop-i.invariant.2))
+
+pub returns-clause-spelled : goal.returns-clause-spelled
+returns-clause-spelled c =
+    let last = no_more c.loop-i.bytes (byte_words c.args.line.now) c.loop-i.i (rw length-drop (omega arith)) in
+    sym (c.loop-i.invariant.0 ∙ last.0)
+
+pub returns-clause-told : goal.returns-clause-told
+unfolding cdb_in
+returns-clause-told c =
+    let line = c.args.line.now in
+    let last = no_more (take c.loop-i.i c.loop-i.bytes) (byte_words line) c.loop-i.i (rw length-drop (omega arith)) in
+    let all : c.loop-i.i ≡ c.saturating_sub-len.result = omega arith in
+    (rw (c.loop-i.invariant.0 ∙ last.0, ← all) (sym (c.loop-i.invariant.1 ∙ last.1)), omega arith)

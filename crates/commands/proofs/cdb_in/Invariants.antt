@@ -1,20 +1,11 @@
--- At each turn the bytes so far and the words from `len` on make the CDB. As long as all is well there are at most 42 words, so that the bytes
--- have room. The measure is the number of words left.
+-- At each turn the bytes so far and the words from `i` on make the CDB, and the line is one if all of these words are bytes.
 use mathlib.Core.Path.{◌≡◌}
-use mathlib.Core.Bool.{true, ◌&&◌}
-use Prim.Native.Nat.{◌-◌, ◌≤◌}
+use mathlib.Core.List.{◌++◌}
 use lib.ListN.{length, take, drop}
-use Rattle.words.specs.Words.{words}
-use Rattle.commands.specs.Commands.{are_bytes, byte_words, cdb_in, is_cdb}
-use Rattle.commands.proofs.Cdbs.{completed}
+use Rattle.commands.specs.Commands.{are_bytes, byte_words, is_cdb, values}
 use Rattle.commands.proofs.cdb_in.Given as goal
 
-abbrev pub invariant-loop-good : goal.invariant-loop-good
-invariant-loop-good l = (is_cdb l.line ≡ (l.good && are_bytes (drop l.len (byte_words l.line))))
-    × (cdb_in l.line ≡ completed l.good (take l.len l.bytes) (drop l.len (byte_words l.line)))
-    × (l.good ≡ true → length (words l.line) ≤ 42)
-    × (l.len ≤ 40)
+abbrev pub invariant-loop-i : goal.invariant-loop-i
+invariant-loop-i l = (is_cdb l.line ≡ are_bytes (drop l.i (byte_words l.line)))
+    × (values (byte_words l.line) ≡ take l.i l.bytes ++ values (drop l.i (byte_words l.line)))
     × (length l.bytes ≡ 40)
-
-abbrev pub decreases-loop-good : goal.decreases-loop-good
-decreases-loop-good l = l.n - l.len

@@ -1,21 +1,15 @@
--- No condition that the search has passed has run out; so the first that has is the lowest. The measure is the depth that it has come to.
--- (`unsupported` stands where the row has no record.)
-use mathlib.Core.Path.{sym, ◌∙◌}
-use native.Mathlib.Omega.{arith}
+-- The search from the end of the row comes first to the last place that has run out. (`unsupported` stands where the row has no record.)
+use Rattle.std.proofs.Common.{◌+◌, rules, arith}
 use Rattle.drive.specs.Records.{unsupported}
 use Rattle.drive.proofs.Depths.{none_asked, first_from_below}
 use Rattle.drive.proofs.depth_asked.Goals as goal
 
-pub returns-then-ran_out : goal.returns-then-ran_out
-returns-then-ran_out c = (
-  first_from_below c.args.records c.args.count.0 unsupported c.loop-depth.depth (omega arith)
-      (record {
-        inside = omega arith;
-        passes = sym c.ran_out.ensures ∙ c.if-ran_out.true;
-        none_after = λ j k m. c.loop-depth.invariant.1 j (omega arith) m;
-      }),
-  c.loop-depth.invariant.0,
+pub returns-in-Some : goal.returns-in-Some
+returns-in-Some c = (
+  first_from_below c.args.records c.args.count.0 unsupported (c.in-Some.place + 1) (omega arith)
+      (record { inside = search rules; passes = search rules; none_after = search rules }),
+  search rules,
 )
 
-pub returns : goal.returns
-returns c = (none_asked c.args.records c.args.count.0 unsupported (λ j m. c.loop-depth.invariant.1 j (omega arith) m), omega arith)
+pub returns-in-None : goal.returns-in-None
+returns-in-None c = (none_asked c.args.records c.args.count.0 unsupported (search rules), omega arith)

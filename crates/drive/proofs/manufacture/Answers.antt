@@ -4,4 +4,4 @@ use Rattle.drive.proofs.manufacture.Goals as goal
 
 pub returns : goal.returns
 unfolding made
-returns c = rw c.made_records-records.ensures
+returns c = rw c.made_records.ensures

@@ -6,5 +6,5 @@ use Rattle.engine.proofs.hard_reset.Goals as goal
 pub returns : goal.returns
 unfolding reset_outcome
 returns c = let u = c.args.u in
-    c.settle.ensures u (hard_reset_effect u) (rw (c.hard_reset_unless.ensures, c.is_given.ensures))
+    c.settle.ensures u (hard_reset_effect u) (rw (c.hard_reset_unless.ensures, c.is_err.ensures.value))
     ∙ rw (c.record_verdict-v.ensures, c.unit_ok-ok.ensures)

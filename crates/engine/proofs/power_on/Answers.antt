@@ -6,5 +6,5 @@ use Rattle.engine.proofs.power_on.Goals as goal
 pub returns : goal.returns
 unfolding power_on_outcome
 returns c = let u = c.args.u in
-    c.settle.ensures u (power_on_effect u) (rw (c.power_on_unless.ensures, c.is_given.ensures))
+    c.settle.ensures u (power_on_effect u) (rw (c.power_on_unless.ensures, c.is_err.ensures.value))
     ∙ rw (c.record_verdict-v.ensures, c.unit_ok-ok.ensures)

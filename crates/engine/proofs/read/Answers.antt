@@ -6,5 +6,5 @@ use Rattle.engine.proofs.read.Goals as goal
 pub returns : goal.returns
 unfolding read_outcome
 returns c = let u = c.args.u in
-    c.settle.ensures u (read_effect u) (rw (c.read_unless.ensures, c.is_given.ensures))
+    c.settle.ensures u (read_effect u) (rw (c.read_unless.ensures, c.is_err.ensures.value))
     ∙ rw (c.medium_verdict-v.ensures, c.is_out.ensures, c.unit_ok-ok.ensures)

@@ -1,29 +1,29 @@
 -- By the verdict.
+use Rattle.std.proofs.Common.{Ok}
 use mathlib.Core.Path.{◌≡◌, sym, ◌∙◌}
-use Rattle.refusals.specs.declared.Answer.{Answer}
-use Rattle.refusals.specs.declared.Answer.TheVariants.{Done}
 use Rattle.unit.specs.declared.Unit.{Unit}
 use Rattle.outcomes.specs.declared.Called.{Called}
 use Rattle.engine.specs.Engine.{epc_outcome}
 use Rattle.engine.proofs.set_features.Goals as goal
+use Rattle.refusals.specs.Refusals.{Verdict}
 
-same_record : (a : Answer) {u v : Unit} → u ≡ v → ◌≡◌ {A = Called} (record { answer = a; unit = u }) (record { answer = a; unit = v })
+same_record : (a : Verdict) {u v : Unit} → u ≡ v → ◌≡◌ {A = Called} (record { answer = a; unit = u }) (record { answer = a; unit = v })
 same_record a e = rw e
 
-pub returns-in-Clear : goal.returns-in-Clear
+pub returns-in-Ok : goal.returns-in-Ok
 unfolding epc_outcome
-returns-in-Clear c = let told = rw (
+returns-in-Ok c = let told = rw (
   c.aborts.ensures,
   c.is_out.ensures,
   c.unit_ok-ok.ensures,
-) at (sym c.epc_verdict-v.ensures ∙ c.in-Clear.is) in
-    rw told (same_record Done c.epc_effect-changed.ensures)
+) at (sym c.epc_verdict-v.ensures ∙ c.in-Ok.is) in
+    rw told (same_record (Ok tt) c.epc_effect-changed.ensures)
 
-pub returns-in-Given : goal.returns-in-Given
+pub returns-in-Err : goal.returns-in-Err
 unfolding epc_outcome
-returns-in-Given c = let told = rw (
+returns-in-Err c = let told = rw (
   c.aborts.ensures,
   c.is_out.ensures,
   c.unit_ok-ok.ensures,
-) at (sym c.epc_verdict-v.ensures ∙ c.in-Given.is) in
+) at (sym c.epc_verdict-v.ensures ∙ c.in-Err.is) in
     rw told (same_record _ c.epc_refused-kept.ensures)

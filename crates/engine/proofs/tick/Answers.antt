@@ -1,6 +1,6 @@
 -- Still where a number is given or a command is out: the one record is the one that the verdict asks for.
 use mathlib.Core.Path.{◌∙◌}
-use Rattle.refusals.specs.Refusals.{is_given}
+use Rattle.std.specs.Result.{is_err}
 use Rattle.engine.specs.Engine.{tick_effect, tick_outcome}
 use Rattle.engine.proofs.Kept.{tick_kept}
 use Rattle.engine.proofs.tick.Goals as goal
@@ -18,6 +18,6 @@ returns c = let u = c.args.u in
       c.count-next.ensures,
       c.largest_of.ensures,
       c.is_out.ensures,
-      c.is_given.ensures,
-    ) (tick_kept (is_given c.record_verdict-v.result) u))
+      c.is_err.ensures.value,
+    ) (tick_kept (is_err c.record_verdict-v.result) u))
     ∙ rw (c.record_verdict-v.ensures, c.unit_ok-ok.ensures)

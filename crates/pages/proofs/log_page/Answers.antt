@@ -1,17 +1,13 @@
--- After i turns the page is that of the first i records: one turn is `page_more`.
-use mathlib.Core.Path.{refl, ◌∙◌}
-use native.Mathlib.Omega.{arith}
+-- After so many turns the page is that of the records so far: one turn is `page_more`.
+use Rattle.std.proofs.Common.{refl, ◌∙◌, arith}
 use Rattle.pages.specs.Logs.{logged_words, log_words, log_bytes}
 use Rattle.pages.proofs.Page.{page_more}
 use Rattle.pages.proofs.log_page.Goals as goal
 
-pub loop-i-init : goal.loop-i-init
+pub loop-place-init : goal.loop-place-init
 unfolding log_bytes log_words logged_words
-loop-i-init c = (omega arith, refl)
+loop-place-init c = refl
 
-pub loop-i-preserved : goal.loop-i-preserved
-loop-i-preserved c = let records = c.args.records in (
-  omega arith,
-  c.copy_in.ensures
-      ∙ rw (c.named_bytes-named.ensures, c.loop-i.invariant.1) (page_more records c.loop-i.i _ (omega arith) (omega arith)),
-)
+pub loop-place-preserved : goal.loop-place-preserved
+loop-place-preserved c = c.copy_in.ensures
+    ∙ rw (c.named_bytes.ensures, c.loop-place.invariant) (page_more c.args.records c.loop-place.place _ (omega arith) (omega arith))

@@ -1,12 +1,7 @@
--- After i turns the page is that of the first i records: one turn is `page_more`.
-use mathlib.Core.Path.{◌≡◌}
-use Prim.Native.Nat.{◌≤◌, ◌-◌}
-use lib.ListN.{take}
+-- After so many turns the page is that of the records so far: one turn is `page_more`.
+use Rattle.std.proofs.Common.{◌≡◌, take}
 use Rattle.pages.specs.Logs.{log_bytes}
 use Rattle.pages.proofs.log_page.Given as goal
 
-abbrev pub invariant-loop-i : goal.invariant-loop-i
-invariant-loop-i l = (l.i ≤ 5) × (l.page ≡ log_bytes (take l.i l.records))
-
-abbrev pub decreases-loop-i : goal.decreases-loop-i
-decreases-loop-i l = 5 - l.i
+abbrev pub invariant-loop-place : goal.invariant-loop-place
+invariant-loop-place l = l.page ≡ log_bytes (take l.place l.fn.records)

@@ -1,33 +1,25 @@
--- At each turn the pairs read so far and the words from `from` on make the page. The measure is what is left of the line: a word that is
--- there has a length, so `from` grows.
-use mathlib.Core.Path.{◌≡◌}
-use native.Mathlib.Nat.{add-sub_cancel_left}
+-- At each turn the pairs read so far and the words that the iterator has left make the page.
+use mathlib.Core.Path.{sym}
+use Prim.Native.Nat.{◌*◌, ◌+◌, ◌-◌}
 use native.Mathlib.Omega.{arith}
-use Rattle.words.specs.Words.{bytes_at}
-use Rattle.words.proofs.Cuts.{next_within, next_none, next_one}
-use Rattle.pairs.specs.Pairs.{pair_in}
-use Rattle.pairs.proofs.Pages.{one_more_lem, no_more}
+use Rattle.std.proofs.Common.{rules}
+use Rattle.std.proofs.lemmas.Slice.{put_mid-paste}
+use Rattle.pairs.specs.Pairs.{with_pairs}
+use Rattle.pairs.proofs.Pages.{one_more_lem}
 use Rattle.pairs.proofs.read_pairs.Goals as goal
 
-pub overflow_add-end : goal.overflow_add-end
-overflow_add-end c = let n = c.next_word-w.ensures in
-    let within = next_within c.args.line.now c.loop-bytes.from _ _ n.0 n.1 c.loop-bytes.invariant.1 in
-    omega (arith, within)
+pub loop-w-init : goal.loop-w-init
+loop-w-init c = rw (c.blank-bytes.ensures, c.into_iter-w-iterator.ensures.into_iter_gives, c.after_words.ensures.others)
 
-pub returns-then-w-eq0 : goal.returns-then-w-eq0
-returns-then-w-eq0 c = let n = c.next_word-w.ensures in
-    let none = next_none c.args.line.now c.loop-bytes.from _ _ n.0 n.1 c.if-w-eq0.true in
-    no_more _ none c.loop-bytes.invariant.0
+pub loop-w-preserved : goal.loop-w-preserved
+loop-w-preserved c =
+    let at = 2 * c.unwrap_or.result in
+    let bytes = c.to_le_bytes-value.result in
+    let put = put_mid-paste at (at + 2 - at) c.loop-w.bytes c.copy_from_slice.new.self bytes 2 (search rules) (omega arith) (search rules) in
+    rw (put, c.to_le_bytes-value.ensures)
+    (one_more_lem _ c.loop-w.bytes _ _ _ c.pair_in-p.result c.unwrap_or.result c.unwrap_or-in-loop-w.result
+    c.in-Some.ensures.steps c.pair_in-p.ensures.0 c.unwrap_or.ensures c.unwrap_or-in-loop-w.ensures c.to_le_bytes-value.array_long c.loop-w.invariant)
 
-pub slice_bounds-pair_in-end : goal.slice_bounds-pair_in-end
-slice_bounds-pair_in-end c = let n = c.next_word-w.ensures in
-    next_within c.args.line.now c.loop-bytes.from _ _ n.0 n.1 c.loop-bytes.invariant.1
-
-pub loop-bytes-preserved : goal.loop-bytes-preserved
-loop-bytes-preserved c = let n = c.next_word-w in
-    let line = c.args.line.now in
-    let one = next_one line c.loop-bytes.from n.result.at n.result.len n.ensures.0 n.ensures.1 c.if-w-eq0.false in
-    let pair : c.pair_in-p.result ≡ pair_in (bytes_at n.result line) = rw add-sub_cancel_left at c.pair_in-p.ensures.0 in (
-      rw pair (one_more_lem _ _ one c.loop-bytes.invariant.0),
-      next_within line c.loop-bytes.from _ _ n.ensures.0 n.ensures.1 c.loop-bytes.invariant.1,
-    )
+pub returns : goal.returns
+unfolding with_pairs
+returns c = sym (rw c.in-None.ensures.steps.0 at c.loop-w.invariant)

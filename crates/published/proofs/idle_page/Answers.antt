@@ -5,6 +5,6 @@ use Rattle.published.proofs.idle_page.Goals as goal
 
 pub returns : goal.returns
 returns c = c.copy_in-3.ensures
-    ∙ idle_copies c.args.records _ _ _ _ _ c.named_bytes-a.ensures
-    c.named_bytes-b.ensures c.named_bytes-c.ensures c.copy_in.ensures
+    ∙ idle_copies c.args.records _ _ _ _ _ c.named_bytes.ensures
+    c.named_bytes-2.ensures c.named_bytes-3.ensures c.copy_in.ensures
     c.copy_in-2.ensures

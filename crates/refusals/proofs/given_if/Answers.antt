@@ -1,17 +1,17 @@
 -- The row applies or not.
+use Rattle.std.proofs.Common.{Ok, Err}
 use mathlib.Core.Path.{◌≡◌}
 use mathlib.Core.Bool.{Bool, true, false}
 use mathlib.Core.List.{[], ◌∷◌}
 use Rattle.refusals.specs.Refusals.{◌gives◌, lowest}
 use Rattle.refusals.specs.declared.Refusal.{Refusal}
-use Rattle.refusals.specs.declared.Verdict.TheVariants.{Clear, Given}
 use Rattle.refusals.proofs.given_if.Goals as goal
 
-given : (applies : Bool) (r : Refusal) → applies ≡ true → Given r ≡ lowest ((applies gives r) ∷ [])
+given : (applies : Bool) (r : Refusal) → applies ≡ true → Err r ≡ lowest ((applies gives r) ∷ [])
 unfolding lowest
 given applies r e = rw e
 
-clear : (applies : Bool) (r : Refusal) → applies ≡ false → Clear ≡ lowest ((applies gives r) ∷ [])
+clear : (applies : Bool) (r : Refusal) → applies ≡ false → Ok tt ≡ lowest ((applies gives r) ∷ [])
 unfolding lowest
 clear applies r e = rw e
 

@@ -6,9 +6,9 @@ use Rattle.refusals.proofs.start_stop_verdict.Goals as goal
 
 pub returns : goal.returns
 returns c = rw (
-  c.or_else.ensures,
+  c.and.ensures,
   c.cdb_verdict.ensures,
-  c.or_else-before.ensures,
+  c.and-before.ensures,
   c.host_verdict.ensures,
   c.given_if.ensures,
   lowest_append (bad_length_row c.args.size 6 ∷ []) _,

@@ -1,17 +1,16 @@
--- By the answer.
+-- By what the page's check answered.
+use Rattle.std.proofs.Common.{Ok, Err}
 use Rattle.digits.specs.Sheets.{wrote_all}
 use Rattle.digits.proofs.Sheets.{line_once}
-use Rattle.report.proofs.Lines.{of_read, of_refused}
+use Rattle.report.proofs.Lines.{of_checked}
 use Rattle.report.proofs.put_lines.Goals as goal
 
-pub returns-in-Done : goal.returns-in-Done
-returns-in-Done g c = let page = c.args.page.now in
-    let checked = c.page_faults-checked in
-    rw (← of_read page checked.result checked.ensures c.in-Done.is) c.put_found.ensures
+pub returns-in-Ok : goal.returns-in-Ok
+returns-in-Ok g c = let page = c.args.page.now in
+    rw (← of_checked page c.page_faults.result (Ok _) c.page_faults.ensures c.in-Ok.is) c.put_found.ensures
 
-pub returns-in-Refused : goal.returns-in-Refused
+pub returns-in-Err : goal.returns-in-Err
 unfolding wrote_all
-returns-in-Refused g c = let page = c.args.page.now in
-    let checked = c.page_faults-checked in
-    let refused = of_refused page checked.result _ checked.ensures c.in-Refused.is in
+returns-in-Err g c = let page = c.args.page.now in
+    let refused = of_checked page c.page_faults.result (Err _) c.page_faults.ensures c.in-Err.is in
     rw (← refused) (rw (c.not_read.ensures, line_once) at c.put_line.ensures)

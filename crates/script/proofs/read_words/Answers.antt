@@ -6,19 +6,18 @@ use Rattle.script.specs.Lines.{line_of_words, call_entries, lone_entries, part_e
 use Rattle.script.proofs.Tables.{in_table, behind_table, some_words}
 use Rattle.script.proofs.read_words.Goals as goal
 
-pub returns-then-n-eq0 : goal.returns-then-n-eq0
+pub returns-then-word_count-eq0 : goal.returns-then-word_count-eq0
 unfolding line_of_words
-returns-then-n-eq0 c = rw (← c.word_count-n.ensures, c.if-n-eq0.true)
+returns-then-word_count-eq0 c = rw (← c.word_count.ensures, c.if-word_count-eq0.true)
 
-pub returns-then-place-lt15 : goal.returns-then-place-lt15
+pub returns-in-Some : goal.returns-in-Some
 unfolding words pieces nonempty
-returns-then-place-lt15 c = let n = c.name_at-place.ensures in
-    let line = c.args.line.now in
-    let some = some_words line (λ e. c.if-n-eq0.false (c.word_count-n.ensures ∙ e)) in
-    c.call_at.ensures ∙ rw n (in_table line call_entries (part_entries ++ lone_entries) (rw (← n) c.if-place-lt15.true)) ∙ sym some
+returns-in-Some c = let line = c.args.line.now in
+    let some = some_words line (λ e. c.if-word_count-eq0.false (c.word_count.ensures ∙ e)) in
+    c.call_at.ensures ∙ in_table line call_entries (part_entries ++ lone_entries) c.in-Some.place (sym c.name_at.ensures ∙ c.in-Some.is) ∙ sym some
 
-pub returns-else-place-lt15 : goal.returns-else-place-lt15
+pub returns-in-None : goal.returns-in-None
 unfolding words pieces nonempty
-returns-else-place-lt15 c = let line = c.args.line.now in
-    let some = some_words line (λ e. c.if-n-eq0.false (c.word_count-n.ensures ∙ e)) in
-    c.read_in_block.ensures ∙ behind_table line call_entries (part_entries ++ lone_entries) (rw (← c.name_at-place.ensures) c.if-place-lt15.false) ∙ sym some
+returns-in-None c = let line = c.args.line.now in
+    let some = some_words line (λ e. c.if-word_count-eq0.false (c.word_count.ensures ∙ e)) in
+    c.read_in_block.ensures ∙ behind_table line call_entries (part_entries ++ lone_entries) (sym c.name_at.ensures ∙ c.in-None.is) ∙ sym some

@@ -35,5 +35,5 @@ returns g c =
     (rw hosts at c.loop-host.invariant)
     (rw holders at c.loop-holder.invariant)
     (adds _ _ c.put_line-4.ensures c.spell-3.ensures)
-    (adds _ _ c.put_line-5.ensures (rw c.tally_of.ensures at c.spell-4.ensures))
+    (adds _ _ c.put_line-5.ensures (rw c.table_of.ensures at c.spell-4.ensures))
     (adds _ _ c.put_line-6.ensures c.of-2.ensures)

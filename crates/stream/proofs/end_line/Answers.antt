@@ -11,7 +11,7 @@ use Rattle.stream.proofs.end_line.Goals as goal
 pub returns : goal.returns
 returns c = let r = c.args.r in
     let line = c.args.line.now in
-    let kept : take c.smaller-n.result line ≡ take r.len line = rw c.smaller-n.ensures (sym (take_min r.len line)) in
+    let kept : take c.min-n.result line ≡ take r.len line = rw c.min-n.ensures (sym (take_min r.len line)) in
     let step = rw kept at c.respond-step.ensures in
     let pieces = (response r.session (take r.len line)).pieces in
     let small = answer_fits r.session (take r.len line) in

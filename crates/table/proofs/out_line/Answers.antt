@@ -2,5 +2,5 @@
 use Rattle.digits.proofs.Digits.{cut_once}
 use Rattle.table.proofs.out_line.Goals as goal
 
-pub returns-in-OutFor : goal.returns-in-OutFor
-returns-in-OutFor c = rw (c.put_decimal.ensures, c.of-in-OutFor.ensures, cut_once, c.in-OutFor.is)
+pub returns-in-Some : goal.returns-in-Some
+returns-in-Some c = rw (c.put_decimal.ensures, c.of-in-Some.ensures, cut_once, c.in-Some.is)

@@ -3,5 +3,5 @@ use borrow.Author.Rules.{rules}
 use Rattle.digits.proofs.Digits.{cut_said}
 use Rattle.table.proofs.put_held.Goals as goal
 
-pub returns-in-Nothing : goal.returns-in-Nothing
-returns-in-Nothing c = rw c.in-Nothing.is (cut_said c.args.t (search rules))
+pub returns-in-None : goal.returns-in-None
+returns-in-None c = rw c.in-None.is (cut_said c.args.t (search rules))

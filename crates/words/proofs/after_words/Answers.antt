@@ -1,15 +1,17 @@
--- At each turn the words from `from` on are those after the first i. The measure is what is left of k.
+-- At each turn the words of the rest, which is a tail of the line, are those after the first.
+use mathlib.Core.Path.{sym, ◌∙◌}
 use native.Mathlib.Omega.{arith}
-use Rattle.words.proofs.Cuts.{next_within, next_nth}
+use Rattle.words.specs.Words.{words}
+use Rattle.words.proofs.Cuts.{none_after, others_after, tail_of}
 use Rattle.words.proofs.after_words.Goals as goal
 
-pub overflow_add-from : goal.overflow_add-from
-overflow_add-from c = let n = c.next_word-w.ensures in
-    let within = next_within c.args.line.now c.loop-i.from _ _ n.0 n.1 c.loop-i.invariant.2 in
-    omega (arith, within)
+pub returns-in-None-clause-others : goal.returns-in-None-clause-others
+returns-in-None-clause-others c = let none = c.in-None.ensures.cases in
+    none ∙ sym (none_after (words c.args.line.now) c.loop.counter c.args.k (omega arith) (sym c.loop.invariant.0 ∙ none))
 
-pub loop-i-preserved : goal.loop-i-preserved
-loop-i-preserved c = let line = c.args.line.now in
-    let n = c.next_word-w.ensures in
-    let found = next_nth line c.loop-i.from _ _ n.0 n.1 c.loop-i.i c.loop-i.invariant.1 in
-    (omega arith, found.1, next_within line c.loop-i.from _ _ n.0 n.1 c.loop-i.invariant.2)
+pub loop-preserved : goal.loop-preserved
+loop-preserved c = let line = c.args.line.now in
+    let ensured = c.in-Some.ensures in (
+      others_after (words line) _ _ c.loop.counter (sym c.loop.invariant.0 ∙ ensured.cases),
+      (_, ensured.places.1 ∙ tail_of line c.loop.rest.now c.loop.invariant.1.0 c.loop.invariant.1.1),
+    )

@@ -1,12 +1,9 @@
--- At each turn the words from `from` on are those after the first i. The measure is what is left of k.
+-- At each turn the words of the rest, which is a tail of the line, are those after the first.
 use mathlib.Core.Path.{◌≡◌}
-use Prim.Native.Nat.{◌-◌, ◌≤◌}
-use lib.ListN.{length, drop}
+use Prim.Native.Nat.{ℕ}
+use lib.ListN.{drop}
 use Rattle.words.specs.Words.{words}
 use Rattle.words.proofs.after_words.Given as goal
 
-abbrev pub invariant-loop-i : goal.invariant-loop-i
-invariant-loop-i l = (l.i ≤ l.k) × (words (drop l.from l.line) ≡ drop l.i (words l.line)) × (l.from ≤ length l.line)
-
-abbrev pub decreases-loop-i : goal.decreases-loop-i
-decreases-loop-i l = l.k - l.i
+abbrev pub invariant-loop : goal.invariant-loop
+invariant-loop l = (words l.rest ≡ drop l.counter (words l.line)) × ((n : ℕ) × (l.rest ≡ drop n l.line))

@@ -1,22 +1,23 @@
--- After i turns the first i bytes stand behind those that were there: one turn is `paste-suc`. The measure is what is left to add.
+-- What is copied stands behind the bytes that were there.
+use mathlib.Core.Path.{◌≡◌, ◌∙◌}
+use Prim.Native.Nat.{◌+◌}
 use native.Mathlib.Omega.{arith}
-use native.Mathlib.Numerals.{add-one}
-use native.Mathlib.Nat.{le_antisymm}
-use lib.ListN.{length-set}
-use lib.Seq.{paste-suc}
+use lib.ListN.{length, take}
+use Rattle.std.proofs.Common.{rules}
+use Rattle.std.proofs.lemmas.Slice.{take-put_mid}
 use Rattle.words.proofs.Room.{filled}
 use Rattle.words.proofs.append.Goals as goal
 
-pub loop-i-preserved : goal.loop-i-preserved
-loop-i-preserved c = let start = c.smaller-start.result in (
-  omega arith,
-  rw (c.loop-i.invariant.1, add-one) (paste-suc c.args.line.now start c.args.more.now c.loop-i.i 0 (omega arith) (omega arith)),
-  simp (length-set, c.loop-i.invariant.2),
-)
-
 pub returns : goal.returns
-returns c = let first = c.smaller-start in (
-  rw (c.loop-i.invariant.1, le_antisymm c.loop-i.invariant.0 c.loop-i-test.false)
-      (filled c.args.line.now c.args.more.now c.args.len first.result c.smaller-count.result first.ensures c.smaller-count.ensures),
-  omega arith,
-)
+returns c =
+    let start = c.min-start in
+    let count = c.min-count in
+    let line = c.args.line.now in
+    let more = c.args.more.now in
+    let new = c.copy_from_slice.new.self in
+    let copied : new ≡ take count.result more = search rules in
+    let long : start.result + count.result ≡ start.result + length new = search rules in (
+      take-put_mid start.result _ line new (start.result + count.result) long (omega arith)
+          ∙ rw copied (filled line more c.args.len start.result count.result start.ensures count.ensures),
+      search rules,
+    )

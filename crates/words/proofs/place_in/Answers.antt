@@ -1,40 +1,19 @@
--- At each turn the name's place is counted from `place` on among the words from `from` on. The measure is what is left of the names:
--- a word that is there has a length, so `from` grows.
-use native.Mathlib.Omega.{arith}
-use native.Mathlib.Nat.{add-zero, add-sub_cancel_left}
-use Rattle.words.specs.Words.{place_in}
-use Rattle.words.proofs.Cuts.{next_within, next_none, next_one}
+-- The chain finds the first name that is the word.
+use borrow.Author.Tests.{tests}
+use mathlib.Core.Logic.{inl}
+use mathlib.Core.Path.{refl, ◌∙◌}
+use Rattle.std.proofs.Common.{rules}
+use Rattle.std.proofs.lemmas.Iterator.Consumers.{YieldsList-from_first}
+use Rattle.std.proofs.lemmas.Iterator.Search.{position_from_yields_List}
+use Rattle.words.specs.Words.{same, words}
+use Rattle.words.proofs.Cuts.{words_within}
+use Rattle.words.proofs.Places.{placed}
 use Rattle.words.proofs.place_in.Goals as goal
 
-pub overflow_add-end : goal.overflow_add-end
-overflow_add-end c = let n = c.next_word-n.ensures in
-    omega (arith, next_within c.args.names.now c.loop-place.from _ _ n.0 n.1 c.loop-place.invariant.2)
+pub returns : goal.returns
+returns c =
+    let place = position_from_yields_List (same c.args.w.now) c.position.new.self _ c.position.result c.position.ensures.ran (YieldsList-from_first (λ x. x.now) (λ s. words s.0.now) (words c.args.names.now) refl) (λ x b q k. search (rules, tests)) in
+    place ∙ placed c.args.w.now (words c.args.names.now)
 
-pub returns-then-n-eq0 : goal.returns-then-n-eq0
-unfolding place_in
-returns-then-n-eq0 c = let n = c.next_word-n.ensures in
-    let none = next_none c.args.names.now c.loop-place.from _ _ n.0 n.1 c.if-n-eq0.true in
-    rw (c.loop-place.invariant.0, none, add-zero)
-
-pub slice_bounds-are_same-end : goal.slice_bounds-are_same-end
-slice_bounds-are_same-end c = let n = c.next_word-n.ensures in
-    omega (arith, next_within c.args.names.now c.loop-place.from _ _ n.0 n.1 c.loop-place.invariant.2)
-
-pub returns-then-are_same : goal.returns-then-are_same
-unfolding place_in
-returns-then-are_same c = let n = c.next_word-n in
-    let names = c.args.names.now in
-    let one = next_one names c.loop-place.from _ _ n.ensures.0 n.ensures.1 c.if-n-eq0.false in
-    let found = rw (c.are_same.ensures, add-sub_cancel_left) at c.if-are_same.true in
-    rw (c.loop-place.invariant.0, one, found, add-zero)
-
-pub loop-place-preserved : goal.loop-place-preserved
-unfolding place_in
-loop-place-preserved c = let n = c.next_word-n in
-    let names = c.args.names.now in
-    let one = next_one names c.loop-place.from _ _ n.ensures.0 n.ensures.1 c.if-n-eq0.false in
-    let other = rw (c.are_same.ensures, add-sub_cancel_left) at c.if-are_same.false in (
-      rw (c.loop-place.invariant.0, one, other) (omega arith),
-      omega arith,
-      next_within names c.loop-place.from _ _ n.ensures.0 n.ensures.1 c.loop-place.invariant.2,
-    )
+pub position-requires-clause-fits : goal.position-requires-clause-fits
+position-requires-clause-fits c = let few = words_within c.args.names.now in inl (search rules)
