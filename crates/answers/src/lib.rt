@@ -98,15 +98,13 @@ fn plain(u: Unit, call: PlainCall) -> Told
 fn start_stop(u: Unit, host: u32, text: &[u8]) -> Told
     ensures { (result.unit ≡ (start_stop_outcome u host (cdb_in (line_in text.now))).unit) × (said result.text ≡ cut (accepted_text (start_stop_outcome u host (cdb_in (line_in text.now))).answer)) }
 {
-    let cdb = commands::cdb(text);
-    let bytes = cdb.bytes;
-    let n = cdb.len;
-    let s = power::start_stop_unit(u, host, &bytes[..n]);
-    let unit = s.unit;
-    let answer = s.answer;
+    let s = match commands::cdb(text) {
+        Some(cdb) => power::start_stop_unit(u, host, &cdb.bytes[..cdb.len]),
+        None => power::start_stop_unit(u, host, &[]),
+    };
     Told {
-        unit,
-        text: phrases::accepted(answer),
+        unit: s.unit,
+        text: phrases::accepted(s.answer),
     }
 }
 

@@ -77,7 +77,12 @@ pub enum Line {
 }
 
 // What the word of that number names: of these kinds the one at the name's place.
-pub fn kind_at<T: Copy, const N: usize>(line: &[u8], k: usize, names: &[u8], kinds: [T; N]) -> Option<T>
+pub fn kind_at<T: Copy, const N: usize>(
+    line: &[u8],
+    k: usize,
+    names: &[u8],
+    kinds: [T; N],
+) -> Option<T>
     ensures { result ≡ kind_in (words names.now) kinds k line.now }
 {
     let place = words::name_at(line, k, names)?;

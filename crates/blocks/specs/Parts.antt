@@ -1,5 +1,5 @@
 -- The format page, "Set-up": what each line of a block sets. Assumes nothing.
-use Rattle.std.specs.Prelude.{List, [], ◌∷◌, ℕ, set}
+use Rattle.std.specs.Prelude.{List, [], ◌∷◌, set}
 use Rattle.conditions.specs.Conditions.{place_of}
 use Rattle.drive.specs.Drives.{drive_of, with_records, with_counts}
 use Rattle.drive.specs.declared.Edition.TheVariants.{Draft}

@@ -1,5 +1,5 @@
 -- The format page, "Calls": each call's line. Assumes nothing.
-use Rattle.std.specs.Prelude.{Bool, true, cond, ◌&&◌, Option, Some, None, List, [], ◌∷◌, ℕ, leb, drop, length}
+use Rattle.std.specs.Prelude.{Bool, true, cond, ◌&&◌, Option, Some, List, [], ◌∷◌, ℕ, leb, drop, length}
 use Rattle.asked.specs.declared.CallLine.TheVariants.{Plain, StartStop, Next, Answer, Sense, Log, Transitions, NewPage}
 use Rattle.asked.specs.declared.Line.{Line}
 use Rattle.asked.specs.declared.Line.TheVariants.{Asks, Makes}

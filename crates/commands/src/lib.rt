@@ -85,7 +85,11 @@ pub fn reset_line(line: &[u8]) -> Option<Line>
     if words::word_count(line) != 2 {
         return None;
     }
-    let resets = [PlainCall::PowerOn, PlainCall::HardReset, PlainCall::SoftReset];
+    let resets = [
+        PlainCall::PowerOn,
+        PlainCall::HardReset,
+        PlainCall::SoftReset,
+    ];
     let reset = asked::kind_at(line, 1, b"power hard soft", resets)?;
     Some(Line::Asks(CallLine::Plain(reset)))
 }

@@ -176,7 +176,7 @@ pub fn restart(d: Drive) -> Drive
 pub fn zero_unless(kept: bool, n: Tenths) -> Tenths
     ensures { result.0 ≡ cond kept n.0 0 }
 {
-    if kept { n } else { Tenths(0) }
+    rows::pick(kept, n, Tenths(0))
 }
 
 // Other counts: for a record that is set up from parts. No call of the layer comes here.
@@ -255,12 +255,6 @@ pub fn use_unless(d: Drive, kept: bool) -> Drive
     } else {
         enter(next, Power::Active)
     }
-}
-
-pub fn pick_setting(b: bool, x: Setting, y: Setting) -> Setting
-    ensures { result ≡ cond b x y }
-{
-    if b { x } else { y }
 }
 
 fn restored(r: Record) -> Record

@@ -165,14 +165,14 @@ pub fn aborts(e: Edition, q: Registers, records: [Record; 5]) -> bool
 fn set_current(lba: u32, saved: Setting, current: Setting, r: Record) -> Record
     ensures { result ≡ with_settings (saved_too lba saved r) current r }
 {
-    drive::with_settings(r, drive::pick_setting(save(lba), saved, r.saved), current)
+    drive::with_settings(r, rows::pick(save(lba), saved, r.saved), current)
 }
 
 // From default with bit 6, else from saved.
 fn restored_from(lba: u32, r: Record) -> Setting
     ensures { result ≡ restored_from lba r }
 {
-    drive::pick_setting((lba >> 6) % 2 != 0, r.default, r.saved)
+    rows::pick((lba >> 6) % 2 != 0, r.default, r.saved)
 }
 
 // Bits 23:8 are the timer: in minutes with bit 7, which only a published unit takes.

@@ -25,10 +25,9 @@ use Rattle.words.specs.Lines.{before_return}
 use Rattle.words.specs.Numbers.{are_digits, value_after, is_number, word_number, word_flag}
 use Rattle.words.specs.Words.{pieces, nonempty, words, word_at, place_in}
 use Rattle.digits.specs.Numerals.{numeral, pairs}
-use Rattle.asked.specs.declared.Entries.{Entries}
 use Rattle.asked.specs.declared.CallLine.TheVariants.{NewPage}
 use Rattle.asked.specs.declared.Line.{Line}
-use Rattle.asked.specs.declared.Line.TheVariants.{Asks, Makes, Sets, Tells, Wrong}
+use Rattle.asked.specs.declared.Line.TheVariants.{Asks, Makes, Sets, Tells}
 use Rattle.asked.specs.declared.Part.{Part}
 use Rattle.asked.specs.declared.Part.TheVariants.{IsOf, Settings, Stands, HasSlot, HasHeld, HasOut, HasCounts}
 use Rattle.script.specs.Lines.{line_of_words, line_of_text}
@@ -59,9 +58,6 @@ stands power idle stopped unsaved =
 abbrev waits : ℕ → Target → Bool → Stage → Part
 waits host target immed stage = HasSlot host (Waiting (record { target = target; immed = immed; stage = stage }))
 
-abbrev entries : ℕ → ℕ → Entries
-entries timer other = record { timer = timer; other = other }
-
 abbrev samples : List Part
 samples =
     IsOf Draft
@@ -80,17 +76,17 @@ samples =
     ∷ HasHeld 3 (Some CommandSequence)
     ∷ HasOut None
     ∷ HasOut (Some 0xFF)
-    ∷ HasCounts (record {
-      active = entries 0 1;
-      a = entries 2 0x10;
-      b = entries 0xABC 0xFFFFFFFF;
-      c = entries 0xFFFFFFFF 0;
-      y = entries 0xFFFFFFFE 9;
-      z = entries 0xA 0x80000000;
-    })
+    ∷ HasCounts (
+    (0 ∷ 1 ∷ [])
+    ∷ (2 ∷ 0x10 ∷ [])
+    ∷ (0xABC ∷ 0xFFFFFFFF ∷ [])
+    ∷ (0xFFFFFFFF ∷ 0 ∷ [])
+    ∷ (0xFFFFFFFE ∷ 9 ∷ [])
+    ∷ (0xA ∷ 0x80000000 ∷ [])
+    ∷ [])
     ∷ []
 
-pub read_back : map (λ p. line_of_text (part_text p)) samples ≡ map Sets samples
+pub read_back : map (λ p. line_of_text (part_text p)) samples ≡ map (λ p. Some (Sets p)) samples
 unfolding numeral pairs part_text before_return pieces nonempty words word_at place_in are_digits value_after is_number word_number word_flag
     line_of_text line_of_words condition_line state_line slot_line held_line out_line counts_line edition_line
 read_back = refl
@@ -111,7 +107,7 @@ misses =
     ∷ codes "held 4 02 04 02"
     ∷ []
 
-pub none_read : map line_of_text misses ≡ replicate 11 Wrong
+pub none_read : map line_of_text misses ≡ replicate 11 None
 unfolding before_return pieces nonempty words word_at place_in are_digits value_after is_number word_number line_of_text line_of_words held_line
 none_read = refl
 
@@ -143,7 +139,7 @@ new_lines =
     ∷ (record { text = codes "m Z 1 0 1 FFFFFFFF 1 258"; asks = Tells StandbyZ told })
     ∷ []
 
-pub new_read : map (λ s. line_of_text s.text) new_lines ≡ map (λ s. s.asks) new_lines
+pub new_read : map (λ s. line_of_text s.text) new_lines ≡ map (λ s. Some s.asks) new_lines
 unfolding before_return pieces nonempty words word_at place_in are_digits value_after is_number word_number word_flag
     line_of_text line_of_words new_page_line make_line maker_line
 new_read = refl
@@ -169,7 +165,7 @@ new_misses =
     ∷ codes "m A 1 1 1 0 0 0 0"
     ∷ []
 
-pub none_new : map line_of_text new_misses ≡ replicate 16 Wrong
+pub none_new : map line_of_text new_misses ≡ replicate 16 None
 unfolding before_return pieces nonempty words word_at place_in are_digits value_after is_number word_number word_flag
     line_of_text line_of_words new_page_line make_line edition_line maker_line
 none_new = refl

@@ -3,6 +3,7 @@
 use Rattle.std.proofs.Common.{Ok, Err, Some, None, Option, Result}
 use mathlib.Core.Path.{◌≡◌, refl}
 use mathlib.Core.Bool.{Bool, true, false, cond, not}
+use Rattle.std.specs.Prelude.{Option, Some, None}
 use mathlib.Core.List.{List, [], ◌∷◌, ◌++◌, map}
 use Prim.Native.Nat.{ℕ, ◌+◌, ◌*◌, ◌≤◌, min}
 use native.Mathlib.Omega.{arith}
@@ -36,12 +37,12 @@ use Rattle.asked.specs.Lengths.{buffer_length}
 use Rattle.asked.specs.declared.CallLine.{CallLine}
 use Rattle.asked.specs.declared.CallLine.TheVariants.{Plain, StartStop, Next, Answer as AnswerCall, Sense, Log, Transitions, NewPage, PageFaults, PageRecord}
 use Rattle.asked.specs.declared.Line.{Line}
-use Rattle.asked.specs.declared.Line.TheVariants.{Blank, Wrong, Asks, Sets, Tells, Opens, Makes, Closes, Shows, Tables}
+use Rattle.asked.specs.declared.Line.TheVariants.{Blank, Asks, Sets, Tells, Opens, Makes, Closes, Shows, Tables}
 use Rattle.asked.specs.declared.Part.{Part}
 use Rattle.asked.specs.Records.{parts_of}
 use Rattle.blocks.specs.Sessions.{is_open, after_line, closed_with}
 use Rattle.blocks.specs.declared.Block.{Block}
-use Rattle.blocks.specs.declared.Block.TheVariants.{NoBlock, UnitBlock, MakeBlock}
+use Rattle.blocks.specs.declared.Block.TheVariants.{UnitBlock, MakeBlock}
 use Rattle.spelling.specs.Spelling.{part_text, part_lines, shown}
 use Rattle.blocks.specs.declared.Session.{Session}
 use Rattle.commands.specs.Commands.{cdb_in}
@@ -210,29 +211,29 @@ call_fits u (PageRecord c len) text = record_fits c len text
 pub ok_fits : (good : Bool) → Fits (ok_or_error good)
 ok_fits good = line_fits (cond good (codes "ok") (codes "error"))
 
-outside_fits : (s : Session) (line : Line) (text : List ℕ) → Fits (outside s line text).pieces
-outside_fits s Blank text = omega arith
-outside_fits s Wrong text = ok_fits false
-outside_fits s (Asks c) text = call_fits s.unit c text
-outside_fits s (Sets p) text = ok_fits false
-outside_fits s (Tells c r) text = ok_fits false
-outside_fits s Opens text = omega arith
-outside_fits s (Makes e) text = omega arith
-outside_fits s Closes text = ok_fits false
-outside_fits s Shows text = shown_fits s.unit
-outside_fits s Tables text = table_fits s.unit
+outside_fits : (s : Session) (line : Option Line) (text : List ℕ) → Fits (outside s line text).pieces
+outside_fits s (Some Blank) text = omega arith
+outside_fits s (Some (Asks c)) text = call_fits s.unit c text
+outside_fits s (Some (Sets p)) text = ok_fits false
+outside_fits s (Some (Tells c r)) text = ok_fits false
+outside_fits s (Some Opens) text = omega arith
+outside_fits s (Some (Makes e)) text = omega arith
+outside_fits s (Some Closes) text = ok_fits false
+outside_fits s (Some Shows) text = shown_fits s.unit
+outside_fits s (Some Tables) text = table_fits s.unit
+outside_fits s None text = ok_fits false
 
 make_fits : (s : Session) (good : Bool)
     → Fits (cond good (make_replied s (made_response s.unit s.planned)) (says_ok false (closed_with s.unit s))).pieces
 make_fits s true = line_fits (called_text (planned_outcome s.planned).answer)
 make_fits s false = ok_fits false
 
-end_fits : (s : Session) (b : Block) → Fits (ended_block b s).pieces
-end_fits s NoBlock = ok_fits false
-end_fits s UnitBlock = ok_fits s.good
-end_fits s MakeBlock = make_fits s s.good
+end_fits : (s : Session) (b : Option Block) → Fits (ended_block b s).pieces
+end_fits s None = ok_fits false
+end_fits s (Some UnitBlock) = ok_fits s.good
+end_fits s (Some MakeBlock) = make_fits s s.good
 
-block_fits : (s : Session) (line : Line) → Fits (in_block s line).pieces
+block_fits : (s : Session) (line : Option Line) → Fits (in_block s line).pieces
 block_fits s line = on (is_end line)
   where
     on : (t : Bool) → Fits (cond t (ended_block s.block s) (silent (after_line line s))).pieces

@@ -74,6 +74,7 @@ fn end_block(s: Session, out: &mut [u8], at: usize) -> Step
     }
 }
 
+#[tactic(auto, unfolding(digits::specs::Sheets::wrote_all))]
 fn in_block(s: Session, line: Option<Line>, out: &mut [u8], at: usize) -> Step
     ensures { (result.session ≡ (in_block s line).session) × (sheet out.new result.at ≡ wrote_all (sheet out.old at) (in_block s line).pieces) }
 {
@@ -114,6 +115,7 @@ fn print_table(s: Session, out: &mut [u8], at: usize) -> Step
     }
 }
 
+#[tactic(auto, unfolding(digits::specs::Sheets::wrote_all))]
 fn outside(s: Session, line: Option<Line>, text: &[u8], out: &mut [u8], at: usize) -> Step
     ensures { (result.session ≡ (Lines.outside s line text.now).session) × (sheet out.new result.at ≡ wrote_all (sheet out.old at) (Lines.outside s line text.now).pieces) }
 {

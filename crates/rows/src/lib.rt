@@ -1,7 +1,7 @@
-// Rows: what holds of any list that is read with its places, and the one function that copies bytes.
+// Rows: what holds of any list that is read with its places, the one function that copies bytes, and the choice between two values.
 #![tactic(auto)]
 
-ghost use Rattle.std.specs.Prelude.{◌+◌, ◌≤◌, ◌≡◌, length};
+ghost use Rattle.std.specs.Prelude.{cond, ◌+◌, ◌≤◌, ◌≡◌, length};
 ghost use Rattle.std.proofs.Math.Seq.{paste};
 
 // Writes `src` into `dst` from the place `at` on: the only function of the layer that writes behind a reference.
@@ -10,4 +10,11 @@ pub fn copy_in(src: &[u8], dst: &mut [u8], at: usize)
     ensures { dst.new ≡ paste dst.old at src.now (length src.now) }
 {
     dst[at..at + src.len()].copy_from_slice(src);
+}
+
+// One of two values, by a flag: each field of a record that a call may leave as it was is picked by it.
+pub fn pick<T: Copy>(first: bool, x: T, y: T) -> T
+    ensures { result ≡ cond first x y }
+{
+    if first { x } else { y }
 }

@@ -1,7 +1,7 @@
 // The unit's record: its types, how they are read and built, when a record is well formed, a new unit, and the sense of a failure. No call stands here.
 #![tactic(auto)]
 
-ghost use Rattle.std.specs.Prelude.{cond, ◌≡◌, set, replicate, None};
+ghost use Rattle.std.specs.Prelude.{cond, ◌≡◌, set, get_or, replicate, None};
 ghost use Rattle.unit.specs.Units.{is_out, is_out_for, made_unit, blank, slot_of, is_waiting, held_of, slot_well_formed, hosts_well_formed, out_well_formed, well_formed, largest_of, with_drive, with_marks, with_slot, with_held, with_out, without_hosts, rested};
 ghost use Rattle.unit.specs.declared.Slot.TheVariants.{Empty};
 
@@ -28,29 +28,40 @@ pub struct Unit {
     pub out: Option<u32>,
 }
 
+// What a list has for a host; a host above 3 has `none`.
+fn of_host<T: Copy>(list: [T; 4], host: u32, none: T) -> T
+    ensures { result ≡ get_or list host none }
+{
+    if host < 4 { list[host as usize] } else { none }
+}
+
+// The list with another entry for a host.
+fn set_host<T: Copy>(list: [T; 4], host: u32, entry: T) -> [T; 4]
+    ensures { result ≡ set list host entry }
+{
+    let mut next = list;
+    if host < 4 {
+        next[host as usize] = entry;
+    }
+    next
+}
+
 pub fn slot_of(slots: [Slot; 4], host: u32) -> Slot
     ensures { result ≡ slot_of slots host }
 {
-    if host < 4 {
-        slots[host as usize]
-    } else {
-        Slot::Empty
-    }
+    of_host(slots, host, Slot::Empty)
 }
 
 pub fn is_waiting(s: Slot) -> bool
     ensures { result ≡ is_waiting s }
 {
-    match s {
-        Slot::Empty => false,
-        Slot::Waiting(_) => true,
-    }
+    matches!(s, Slot::Waiting(_))
 }
 
 pub fn held_of(held: [Option<Failure>; 4], host: u32) -> Option<Failure>
     ensures { result ≡ held_of held host }
 {
-    if host < 4 { held[host as usize] } else { None }
+    of_host(held, host, None)
 }
 
 pub fn is_out(o: Option<u32>) -> bool
@@ -69,8 +80,7 @@ pub fn is_out_for(host: u32, out: Option<u32>) -> bool
 pub fn largest_of(u: Unit) -> Tenths
     ensures { result.0 ≡ largest_of u }
 {
-    let edition = u.edition;
-    drive::largest_timer(edition)
+    drive::largest_timer(u.edition)
 }
 
 fn slot_ok(records: [Record; 5], s: Slot) -> bool
@@ -78,11 +88,7 @@ fn slot_ok(records: [Record; 5], s: Slot) -> bool
 {
     match s {
         Slot::Empty => true,
-        Slot::Waiting(q) => {
-            let target = q.target;
-            let stage = q.stage;
-            requests::request_ok(records, target, stage)
-        }
+        Slot::Waiting(q) => requests::request_ok(records, q.target, q.stage),
     }
 }
 
@@ -106,12 +112,9 @@ fn out_ok(slots: [Slot; 4], out: Option<u32>) -> bool
 pub fn unit_ok(u: Unit) -> bool
     ensures { result ≡ well_formed u }
 {
-    let d = u.drive;
-    let records = u.drive.records;
-    let slots = u.slots;
-    let held = u.held;
-    let out = u.out;
-    drive::drive_ok(largest_of(u), d) & hosts_ok(records, slots, held) & out_ok(slots, out)
+    drive::drive_ok(largest_of(u), u.drive)
+        & hosts_ok(u.drive.records, u.slots, u.held)
+        & out_ok(u.slots, u.out)
 }
 
 pub fn with_drive(u: Unit, d: Drive) -> Unit
@@ -131,64 +134,28 @@ pub fn with_marks(u: Unit, stopped: bool, unsaved: bool) -> Unit
     v
 }
 
-fn set_slot(slots: [Slot; 4], host: u32, s: Slot) -> [Slot; 4]
-    ensures { result ≡ set slots host s }
-{
-    let mut next = slots;
-    if host < 4 {
-        next[host as usize] = s;
-    }
-    next
-}
-
 pub fn with_slot(u: Unit, host: u32, s: Slot) -> Unit
     ensures { result ≡ with_slot host s u }
 {
-    let slots = u.slots;
-    let next = set_slot(slots, host, s);
     let mut v = u;
-    v.slots = next;
+    v.slots = set_host(u.slots, host, s);
     v
-}
-
-fn set_held(held: [Option<Failure>; 4], host: u32, h: Option<Failure>) -> [Option<Failure>; 4]
-    ensures { result ≡ set held host h }
-{
-    let mut next = held;
-    if host < 4 {
-        next[host as usize] = h;
-    }
-    next
 }
 
 pub fn with_held(u: Unit, host: u32, h: Option<Failure>) -> Unit
     ensures { result ≡ with_held host h u }
 {
-    let held = u.held;
-    let next = set_held(held, host, h);
     let mut v = u;
-    v.held = next;
+    v.held = set_host(u.held, host, h);
     v
-}
-
-fn set_slot_unless(kept: bool, slots: [Slot; 4], host: u32, s: Slot) -> [Slot; 4]
-    ensures { result ≡ cond kept slots (set slots host s) }
-{
-    if kept {
-        slots
-    } else {
-        set_slot(slots, host, s)
-    }
 }
 
 // The host's slot, unless the record is kept as it is.
 pub fn with_slot_unless(u: Unit, kept: bool, host: u32, s: Slot) -> Unit
     ensures { result ≡ cond kept u (with_slot host s u) }
 {
-    let slots = u.slots;
-    let next = set_slot_unless(kept, slots, host, s);
     let mut v = u;
-    v.slots = next;
+    v.slots = rows::pick(kept, u.slots, set_host(u.slots, host, s));
     v
 }
 
@@ -200,43 +167,20 @@ pub fn with_out(u: Unit, out: Option<u32>) -> Unit
     v
 }
 
-fn out_unless(kept: bool, out: Option<u32>, next: Option<u32>) -> Option<u32>
-    ensures { result ≡ cond kept out next }
-{
-    if kept { out } else { next }
-}
-
 // What is out, unless the record is kept as it is.
 pub fn with_out_unless(u: Unit, kept: bool, next: Option<u32>) -> Unit
     ensures { result ≡ cond kept u (with_out next u) }
 {
-    let out = u.out;
-    with_out(u, out_unless(kept, out, next))
-}
-
-fn no_slots_unless(kept: bool, slots: [Slot; 4]) -> [Slot; 4]
-    ensures { result ≡ cond kept slots (replicate 4 Empty) }
-{
-    if kept { slots } else { [Slot::Empty; 4] }
-}
-
-fn no_held_unless(kept: bool, held: [Option<Failure>; 4]) -> [Option<Failure>; 4]
-    ensures { result ≡ cond kept held (replicate 4 None) }
-{
-    if kept { held } else { [None; 4] }
+    with_out(u, rows::pick(kept, u.out, next))
 }
 
 // What every reset takes, operations, the command out and deferred senses, unless the record is kept as it is.
 pub fn without_hosts_unless(u: Unit, kept: bool) -> Unit
     ensures { result ≡ cond kept u (without_hosts u) }
 {
-    let slots = u.slots;
-    let held = u.held;
-    let emptied = no_slots_unless(kept, slots);
-    let dropped = no_held_unless(kept, held);
     let mut v = u;
-    v.slots = emptied;
-    v.held = dropped;
+    v.slots = rows::pick(kept, u.slots, [Slot::Empty; 4]);
+    v.held = rows::pick(kept, u.held, [None; 4]);
     with_out_unless(v, kept, None)
 }
 

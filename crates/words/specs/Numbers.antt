@@ -19,6 +19,7 @@ digit_of b =
 abbrev pub is_digit : ℕ → Bool
 is_digit b = ltb (digit_of b) 16
 
+-- The digit that a byte is, if it is one.
 abbrev pub digit_in : ℕ → Option ℕ
 digit_in b = cond (is_digit b) (Some (digit_of b)) None
 

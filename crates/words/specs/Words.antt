@@ -38,6 +38,7 @@ words line = nonempty (pieces line)
 unfoldable pub word_at : ℕ → List ℕ → List ℕ
 word_at k line = get_or (words line) k []
 
+-- A byte that belongs to no word.
 abbrev pub ends_word : ℕ → Bool
 ends_word b = is_blank b || is_comment b
 

@@ -1,6 +1,5 @@
 -- At each turn the bytes so far and the words from `i` on make the CDB, and the line is one if all of these words are bytes.
 use mathlib.Core.Path.{◌≡◌, refl, sym, ◌∙◌}
-use Prim.Native.Nat.{◌+◌, ◌<◌, ◌≤◌}
 use native.Mathlib.Omega.{arith}
 use borrow.Author.Tests.{le-leb, lt-leb}
 use lib.ListN.{length, take, length-drop, length-set}

@@ -10,5 +10,6 @@ use Rattle.words.proofs.blanks.Goals as goal
 
 pub returns : goal.returns
 returns c = let text = c.args.text.now in
-    let place = position_from_yields_List (λ b. not (is_blank b)) _ _ c.position.result c.position.ensures.ran (YieldsList-from_slice text c.iter.ensures.rest) (λ x b q k. search (rules, tests)) in
+    let place = position_from_yields_List (λ b. not (is_blank b)) _ _ c.position.result c.position.ensures.ran
+    (YieldsList-from_slice text c.iter.ensures.rest) (λ x b q k. search (rules, tests)) in
     rw c.unwrap_or.ensures (found gap text c.position.result place)

@@ -3,7 +3,8 @@
 use mathlib.Core.Path.{refl, sym, ◌∙◌}
 use native.Mathlib.Omega.{arith}
 use lib.ListN.{length, get_or}
-use Rattle.words.proofs.Values.{in_range, read_digit, bad_digit, good_digit, one_more_lem, no_more, below_more, below_all, not_length, not_digits, too_large, spelled}
+use Rattle.words.proofs.Values.{in_range, read_digit, bad_digit, good_digit, one_more_lem, no_more}
+use Rattle.words.proofs.Values.{below_more, below_all, not_length, not_digits, too_large, spelled}
 use Rattle.words.proofs.hex.Goals as goal
 
 pub returns-then-not-n : goal.returns-then-not-n

@@ -12,7 +12,8 @@ use Rattle.words.proofs.place_in.Goals as goal
 
 pub returns : goal.returns
 returns c =
-    let place = position_from_yields_List (same c.args.w.now) c.position.new.self _ c.position.result c.position.ensures.ran (YieldsList-from_first (λ x. x.now) (λ s. words s.0.now) (words c.args.names.now) refl) (λ x b q k. search (rules, tests)) in
+    let place = position_from_yields_List (same c.args.w.now) c.position.new.self _ c.position.result c.position.ensures.ran
+    (YieldsList-from_first (λ x. x.now) (λ s. words s.0.now) (words c.args.names.now) refl) (λ x b q k. search (rules, tests)) in
     place ∙ placed c.args.w.now (words c.args.names.now)
 
 pub position-requires-clause-fits : goal.position-requires-clause-fits

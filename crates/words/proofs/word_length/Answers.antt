@@ -9,5 +9,6 @@ use Rattle.words.proofs.word_length.Goals as goal
 
 pub returns : goal.returns
 returns c = let text = c.args.text.now in
-    let place = position_from_yields_List (ends_word) _ _ c.position.result c.position.ensures.ran (YieldsList-from_slice text c.iter.ensures.rest) (λ x b q k. search (rules, tests)) in
+    let place = position_from_yields_List (ends_word) _ _ c.position.result c.position.ensures.ran
+    (YieldsList-from_slice text c.iter.ensures.rest) (λ x b q k. search (rules, tests)) in
     rw c.unwrap_or.ensures (found word text c.position.result place)
