@@ -5,7 +5,7 @@ ghost use Rattle.std.specs.Prelude.{◌++◌, ◌≡◌, ◌<◌, get_or};
 ghost use Rattle.digits.specs.Sheets.{wrote_all};
 ghost use Rattle.digits.specs.Texts.{said, cut};
 ghost use Rattle.asked.specs.Records;
-ghost use Rattle.asked.specs.Records.{settings_of, state_of, entries_at, tally_of, counts_part, after_edition, parts_of};
+ghost use Rattle.asked.specs.Records.{settings_of, state_of};
 ghost use Rattle.asked.specs.declared.Part.TheVariants.{HasOut};
 ghost use Rattle.spelling.specs.Spelling;
 ghost use Rattle.spelling.specs.Spelling.{edition_word, letter_word, setting_words, record_words, power_words, state_words, target_word, stage_words, request_words, slot_words, spaced_text, held_words, out_words, row_words, counts_words, part_text, shown};
