@@ -9,7 +9,7 @@ use Rattle.reader.specs.PageCalls.{faults_outcome}
 use Rattle.std.proofs.Common.{Result}
 use Rattle.faults.specs.declared.Faults.{Faults}
 use Rattle.refusals.specs.declared.Refusal.{Refusal}
-use Rattle.report.specs.Report.{not_read_text, texts_by, report_texts, report_lines}
+use Rattle.report.specs.Report.{texts_by, report_texts, report_lines}
 
 pub all_written : {N : ℕ} {headed rowed listed end : Sheet N} (s : Sheet N) (head : List ℕ) (rows faults : List (List ℕ)) (total : List ℕ)
     → Adds s head headed → rowed ≡ wrote_all headed (map line_text rows) → listed ≡ wrote_all rowed (map line_text faults)
