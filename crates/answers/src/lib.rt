@@ -7,7 +7,7 @@ ghost use Rattle.readouts.specs.Readouts.{sense_outcome};
 ghost use Rattle.bridge.specs.Bridge.{start_stop_outcome};
 ghost use Rattle.exchange.specs.Exchange.{next_outcome, answer_outcome};
 ghost use Rattle.words.specs.Lines.{line_in};
-ghost use Rattle.digits.specs.Sheets.{sheet, wrote, wrote_all, line_text};
+ghost use Rattle.digits.specs.Sheets.{wrote, wrote_all, line_text};
 ghost use Rattle.digits.specs.Texts.{said, cut};
 ghost use Rattle.commands.specs.Commands.{cdb_in};
 ghost use Rattle.findings.specs.Findings.{faults_pieces, record_pieces};
@@ -18,7 +18,7 @@ ghost use Rattle.answers.specs.Answers.{replaced_by, planned_outcome, made_respo
 
 use asked::{CallLine, PlainCall};
 use conditions::Condition;
-use digits::Text;
+use digits::{Sheet, Text};
 use drive::{Made, Record};
 use outcomes::Called;
 use refusals::Refusal;
@@ -30,13 +30,6 @@ use unit::Unit;
 pub struct Told {
     pub unit: Unit,
     pub text: Text,
-}
-
-// The unit after a call, and how far `out` is written.
-#[derive(Clone, Copy)]
-pub struct Printed {
-    pub unit: Unit,
-    pub at: usize,
 }
 
 // The log pages; those of published ACS-2 by their number.
@@ -127,25 +120,22 @@ fn answer(u: Unit, host: u32, reply: Reply) -> Told
     }
 }
 
-// Writes what is said as a line.
-fn put_told(t: Told, out: &mut [u8], at: usize) -> Printed
-    ensures { (result.unit ≡ t.unit) × (sheet out.new result.at ≡ wrote (sheet out.old at) (line_text (said t.text))) }
+// Writes what is said as a line, and answers the unit.
+fn put_told<const N: usize>(t: Told, out: &mut Sheet<N>) -> Unit
+    ensures { (result ≡ t.unit) × (out.new ≡ wrote out.old (line_text (said t.text))) }
 {
-    let unit = t.unit;
-    let text = t.text;
-    Printed {
-        unit,
-        at: digits::put_line(text, out, at),
-    }
+    out.put_line(t.text);
+    t.unit
 }
 
 // An answer, the buffer as the call left it, and the line's end.
-fn put_filled(a: Result<(), Refusal>, buffer: &[u8], out: &mut [u8], at: usize) -> usize
-    ensures { sheet out.new result ≡ wrote_all (sheet out.old at) (filled_pieces a buffer.now) }
+#[tactic(auto, unfolding(digits::specs::Sheets::wrote_all))]
+fn put_filled<const N: usize>(a: Result<(), Refusal>, buffer: &[u8], out: &mut Sheet<N>)
+    ensures { out.new ≡ wrote_all out.old (filled_pieces a buffer.now) }
 {
-    let head = digits::copy_out(phrases::before_bytes(a), out, at);
-    let end = digits::put_bytes(buffer, out, head);
-    digits::put_line(digits::empty(), out, end)
+    out.put_text(phrases::before_bytes(a));
+    out.put_bytes(buffer);
+    out.put_line(Text::empty());
 }
 
 // The most that `sense`, `log`, `trans` and `page` lend, as it is before the call.
@@ -155,18 +145,14 @@ fn unwritten() -> [u8; 1024]
     [0xA5u8; 1024]
 }
 
-fn sense(u: Unit, host: u32, len: u32, out: &mut [u8], at: usize) -> Printed
-    ensures { (result.unit ≡ (filled_response (sense_outcome u host (unfilled len))).unit) × (sheet out.new result.at ≡ wrote_all (sheet out.old at) (filled_response (sense_outcome u host (unfilled len))).pieces) }
+fn sense<const N: usize>(u: Unit, host: u32, len: u32, out: &mut Sheet<N>) -> Unit
+    ensures { (result ≡ (filled_response (sense_outcome u host (unfilled len))).unit) × (out.new ≡ wrote_all out.old (filled_response (sense_outcome u host (unfilled len))).pieces) }
 {
     let mut buffer = unwritten();
     let n = asked::buffer_len(len);
     let c = power::request_sense(u, host, &mut buffer[..n]);
-    let unit = c.unit;
-    let answer = c.answer;
-    Printed {
-        unit,
-        at: put_filled(answer, &buffer[..n], out, at),
-    }
+    put_filled(c.answer, &buffer[..n], out);
+    c.unit
 }
 
 fn read_page(u: Unit, page: Page, buffer: &mut [u8]) -> Result<(), Refusal>
@@ -180,52 +166,52 @@ fn read_page(u: Unit, page: Page, buffer: &mut [u8]) -> Result<(), Refusal>
 }
 
 // Reading a page changes no record.
-fn log(u: Unit, page: Page, len: u32, out: &mut [u8], at: usize) -> Printed
-    ensures { (result.unit ≡ (filled_response (page_outcome page u (unfilled len))).unit) × (sheet out.new result.at ≡ wrote_all (sheet out.old at) (filled_response (page_outcome page u (unfilled len))).pieces) }
+fn log<const N: usize>(u: Unit, page: Page, len: u32, out: &mut Sheet<N>) -> Unit
+    ensures { (result ≡ (filled_response (page_outcome page u (unfilled len))).unit) × (out.new ≡ wrote_all out.old (filled_response (page_outcome page u (unfilled len))).pieces) }
 {
     let mut buffer = unwritten();
     let n = asked::buffer_len(len);
     let a = read_page(u, page, &mut buffer[..n]);
-    Printed {
-        unit: u,
-        at: put_filled(a, &buffer[..n], out, at),
-    }
+    put_filled(a, &buffer[..n], out);
+    u
 }
 
 // Another maker's page is no part of the record.
-fn page_faults(u: Unit, len: u32, text: &[u8], out: &mut [u8], at: usize) -> Printed
-    ensures { (result.unit ≡ u) × (sheet out.new result.at ≡ wrote_all (sheet out.old at) (faults_pieces len text.now)) }
+fn page_faults<const N: usize>(u: Unit, len: u32, text: &[u8], out: &mut Sheet<N>) -> Unit
+    ensures { (result ≡ u) × (out.new ≡ wrote_all out.old (faults_pieces len text.now)) }
 {
-    Printed {
-        unit: u,
-        at: findings::put_faults(len, text, out, at),
-    }
+    findings::put_faults(len, text, out);
+    u
 }
 
-fn page_record(u: Unit, c: Condition, len: u32, text: &[u8], out: &mut [u8], at: usize) -> Printed
-    ensures { (result.unit ≡ u) × (sheet out.new result.at ≡ wrote_all (sheet out.old at) (record_pieces c len text.now)) }
+fn page_record<const N: usize>(
+    u: Unit,
+    c: Condition,
+    len: u32,
+    text: &[u8],
+    out: &mut Sheet<N>,
+) -> Unit
+    ensures { (result ≡ u) × (out.new ≡ wrote_all out.old (record_pieces c len text.now)) }
 {
-    Printed {
-        unit: u,
-        at: findings::put_record(c, len, text, out, at),
-    }
+    findings::put_record(c, len, text, out);
+    u
 }
 
-// Makes a call and writes its line; `text` has the bytes of START STOP UNIT, and the pairs of another maker's page.
-pub fn make(u: Unit, call: CallLine, text: &[u8], out: &mut [u8], at: usize) -> Printed
-    ensures { (result.unit ≡ (call_response u call text.now).unit) × (sheet out.new result.at ≡ wrote_all (sheet out.old at) (call_response u call text.now).pieces) }
+// Makes a call, writes its line and answers the unit after it; `text` has the bytes of START STOP UNIT, and the pairs of another maker's page.
+pub fn make<const N: usize>(u: Unit, call: CallLine, text: &[u8], out: &mut Sheet<N>) -> Unit
+    ensures { (result ≡ (call_response u call text.now).unit) × (out.new ≡ wrote_all out.old (call_response u call text.now).pieces) }
 {
     match call {
-        CallLine::Plain(call) => put_told(plain(u, call), out, at),
-        CallLine::StartStop(host) => put_told(start_stop(u, host, text), out, at),
-        CallLine::Next(host) => put_told(next(u, host), out, at),
-        CallLine::Answer(host, reply) => put_told(answer(u, host, reply), out, at),
-        CallLine::Sense(host, len) => sense(u, host, len, out, at),
-        CallLine::Log(len) => log(u, Page::Conditions, len, out, at),
-        CallLine::Transitions(len) => log(u, Page::Transitions, len, out, at),
-        CallLine::NewPage(number, len) => log(u, Page::Descriptors(number), len, out, at),
-        CallLine::PageFaults(len) => page_faults(u, len, text, out, at),
-        CallLine::PageRecord(c, len) => page_record(u, c, len, text, out, at),
+        CallLine::Plain(call) => put_told(plain(u, call), out),
+        CallLine::StartStop(host) => put_told(start_stop(u, host, text), out),
+        CallLine::Next(host) => put_told(next(u, host), out),
+        CallLine::Answer(host, reply) => put_told(answer(u, host, reply), out),
+        CallLine::Sense(host, len) => sense(u, host, len, out),
+        CallLine::Log(len) => log(u, Page::Conditions, len, out),
+        CallLine::Transitions(len) => log(u, Page::Transitions, len, out),
+        CallLine::NewPage(number, len) => log(u, Page::Descriptors(number), len, out),
+        CallLine::PageFaults(len) => page_faults(u, len, text, out),
+        CallLine::PageRecord(c, len) => page_record(u, c, len, text, out),
     }
 }
 
@@ -282,9 +268,9 @@ fn made_by(u: Unit, planned: Unit) -> Told
     }
 }
 
-// Manufactures the planned unit in the place of `u` and writes the line of that.
-pub fn manufacture(u: Unit, planned: Unit, out: &mut [u8], at: usize) -> Printed
-    ensures { (result.unit ≡ (made_response u planned).unit) × (sheet out.new result.at ≡ wrote_all (sheet out.old at) (made_response u planned).pieces) }
+// Manufactures the planned unit in the place of `u`, writes the line of that and answers the unit after it.
+pub fn manufacture<const N: usize>(u: Unit, planned: Unit, out: &mut Sheet<N>) -> Unit
+    ensures { (result ≡ (made_response u planned).unit) × (out.new ≡ wrote_all out.old (made_response u planned).pieces) }
 {
-    put_told(made_by(u, planned), out, at)
+    put_told(made_by(u, planned), out)
 }

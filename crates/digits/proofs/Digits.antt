@@ -3,18 +3,17 @@
 use mathlib.Core.Path.{◌≡◌, refl, sym, ap, ◌∙◌}
 use mathlib.Core.Bool.{Bool, true, false, cond}
 use mathlib.Core.List.{List, [], ◌∷◌, ◌++◌, append-nil, append_assoc}
-use Prim.Native.Char.{code}
 use Prim.Native.Nat.{ℕ, zero, suc, ◌+◌, ◌-◌, ◌*◌, ◌/◌, ◌%◌, ◌<◌, ◌≤◌, min}
-use native.Mathlib.Nat.{not-suc-le-zero}
-use native.Mathlib.Numerals.{add-one, sub-one}
+use native.Mathlib.Numerals.{sub-one}
 use native.Mathlib.Omega.{arith}
 use borrow.Author.Tests.{lt-ltb, le-ltb, le-leb, lt-leb}
 use lib.Dec.{ltb}
-use lib.ListN.{length, get_or, take, set, length-append, length-take}
-use lib.Seq.{paste, take_all, take-append-le, take-suc-set}
+use lib.ListN.{length, take, length-append, length-take}
+use lib.Seq.{paste, take_all, take-append-add}
+use Rattle.std.proofs.lemmas.List.{take_min, take-take}
 use Rattle.digits.specs.declared.Text.{Text}
 use Rattle.digits.specs.Texts.{said, cut, written_at, after}
-use Rattle.digits.specs.Numerals.{glyph, numeral, pairs, digit_at, bytes_text}
+use Rattle.digits.specs.Numerals.{glyph, numeral, pairs, bytes_text, blanks}
 
 -- ---- what a text says
 
@@ -26,19 +25,10 @@ pub said_length : (t : Text) → Whole t → length (said t) ≡ min t.len 128
 unfolding said
 said_length t e = rw (length-take, e)
 
-pub said_within : (t : Text) → length (said t) ≤ length t.bytes
+-- as many bytes as it has, at most, are those that it says
+pub said_min : (t : Text) → Whole t → take (min t.len 128) t.bytes ≡ said t
 unfolding said
-said_within t = rw length-take (omega arith)
-
--- as many bytes as it says are those that it says
-pub take_said : (t : Text) → take (length (said t)) t.bytes ≡ said t
-unfolding said
-take_said t = same t.len t.bytes
-  where
-    same : (n : ℕ) (l : List ℕ) → take (length (take n l)) l ≡ take n l
-    same zero l = refl
-    same (suc n) [] = refl
-    same (suc n) (x ∷ l) = ap (◌∷◌ x) (same n l)
+said_min t e = rw (← e) (take_min t.len t.bytes)
 
 -- ---- a line that is cut
 
@@ -59,6 +49,24 @@ put_after s a b e f = f ∙ rw (e, cut_more)
 pub cut_once : (a b : List ℕ) → cut (cut a ++ b) ≡ cut (a ++ b)
 cut_once a b = cut_more [] a b
 
+-- bytes behind the room are cut
+take_back : (n m : ℕ) (a b : List ℕ) → n ≤ m → take n (a ++ take m b) ≡ take n (a ++ b)
+take_back zero m a b h = refl
+take_back n m [] b h = take-take n m b h
+take_back (suc n) m (x ∷ a) b h = ap (◌∷◌ x) (take_back n m a b (omega arith))
+
+take_blanks : (n k : ℕ) → take k (blanks n) ≡ blanks (min n k)
+take_blanks n zero = let e : min n 0 ≡ 0 = omega arith in rw e
+take_blanks zero (suc k) = let e : min 0 (suc k) ≡ 0 = omega arith in rw e
+take_blanks (suc n) (suc k) = let e : min (suc n) (suc k) ≡ suc (min n k) = omega arith in rw e (ap (◌∷◌ 32) (take_blanks n k))
+
+pub cut_blanks : (a : List ℕ) (n : ℕ) → cut (a ++ blanks (min n 128)) ≡ cut (a ++ blanks n)
+unfolding cut
+cut_blanks a n = rw (← take_blanks n 128) (take_back 128 128 a (blanks n) (omega arith))
+
+-- by these a text that is put piece by piece says its pieces one after another
+pub ruleset one_by_one = (cut_more, cut_once, append_assoc)
+
 -- what has room is not cut
 pub cut_short : (bs : List ℕ) → length bs ≤ 128 → cut bs ≡ bs
 unfolding cut
@@ -69,22 +77,18 @@ pub cut_said : (t : Text) → Whole t → said t ≡ cut (said t ++ [])
 unfolding cut
 cut_said t e = rw append-nil (sym (take_all 128 (said t) (omega (arith, said_length t e))))
 
--- a text that is full takes no more
-pub put_full : (t : Text) (b : ℕ) → Whole t → 128 ≤ t.len → said t ≡ cut (said t ++ (b ∷ []))
+-- as many bytes as there is room for stand behind what it says
+pub put_more : (t : Text) (more : List ℕ) (at n : ℕ) → Whole t → at ≡ min t.len 128 → n ≡ min (length more) (128 - at)
+    → take at t.bytes ++ take n more ≡ cut (said t ++ more)
 unfolding cut
-put_full t b e h =
-    let l = said_length t e in
-    rw (take-append-le 128 (said t) (b ∷ []) (omega arith)) (sym (take_all 128 (said t) (omega arith)))
+put_more t more at n e at_is n_is =
+    let front : take at t.bytes ≡ said t = rw at_is (said_min t e) in
+    let fewer : n ≡ min (128 - at) (length more) = omega arith in
+    let few : take n more ≡ take (128 - at) more = rw fewer (take_min (128 - at) more) in
+    let full : 128 ≡ length (said t) + (128 - at) = omega (arith, said_length t e) in
+    rw (front, few) (sym (ap (λ k. take k (said t ++ more)) full ∙ take-append-add (said t) more (128 - at)))
 
--- any other takes a byte after what it says
-pub put_one : (t : Text) (b : ℕ) → Whole t → t.len < 128
-    → take (t.len + 1) (set t.bytes t.len b) ≡ cut (said t ++ (b ∷ []))
-unfolding cut said
-put_one t b e h =
-    rw (add-one, take-suc-set t.bytes t.len b (omega arith))
-    (sym (take_all 128 (take t.len t.bytes ++ (b ∷ [])) (rw (length-append, length-take) (omega arith))))
-
--- ---- bytes that have room in a buffer, and bytes that have none
+-- ---- bytes that have room on a sheet, and bytes that have none
 
 pub goes_in : (out : List ℕ) (at : ℕ) (bs : List ℕ) → at + length bs ≤ length out
     → (paste out at bs (length bs) ≡ written_at out at bs) × (at + length bs ≡ after out at bs)
@@ -126,20 +130,10 @@ unfolding pairs
 pairs_length [] = refl
 pairs_length (b ∷ bs) = omega (arith, pairs_length bs)
 
--- the digit at a place is one of the byte at half the place
-pub pairs_at : (bs : List ℕ) (i : ℕ) → i < 2 * length bs → get_or (pairs bs) i 0 ≡ digit_at (get_or bs (i / 2) 0) i
+pub pairs-append : (a b : List ℕ) → pairs (a ++ b) ≡ pairs a ++ pairs b
 unfolding pairs
-pairs_at [] i h = absurd (not-suc-le-zero h)
-pairs_at (b ∷ bs) zero h = refl
-pairs_at (b ∷ bs) (suc zero) h = refl
-pairs_at (b ∷ bs) (suc (suc i)) h =
-    let half : suc (suc i) / 2 ≡ suc (i / 2) = omega arith in
-    let side : suc (suc i) % 2 ≡ i % 2 = omega arith in
-    rw (half, side) (pairs_at bs i (omega arith))
-
-pub bytes_none : (bs : List ℕ) → length bs ≡ 0 → bytes_text bs ≡ code "-" ∷ []
-bytes_none [] e = refl
-bytes_none (b ∷ bs) e = absurd (omega arith)
+pairs-append [] b = refl
+pairs-append (x ∷ a) b = ap (λ l. glyph (x / 16) ∷ glyph (x % 16) ∷ l) (pairs-append a b)
 
 pub bytes_some : (bs : List ℕ) → (length bs ≡ 0 → ⊥) → bytes_text bs ≡ pairs bs
 bytes_some [] p = absurd (p refl)

@@ -1,55 +1,118 @@
 -- Lines are written one after another: with k of them written, those from k on are left to write. Where all have room, they stand there joined.
-use mathlib.Core.Path.{◌≡◌, refl, sym, ◌∙◌}
-use mathlib.Core.List.{List, [], ◌∷◌, ◌++◌, append-nil, append_assoc}
-use Prim.Native.Nat.{ℕ, suc, ◌+◌, ◌<◌, ◌≤◌}
+use mathlib.Core.Path.{◌≡◌, refl, sym, ap, ◌∙◌}
+use mathlib.Core.List.{List, [], ◌∷◌, ◌++◌, append-nil, append_assoc, map}
+use Prim.Native.Nat.{ℕ, zero, suc, ◌+◌, ◌<◌, ◌≤◌}
+use native.Mathlib.Nat.{add-zero}
+use native.Mathlib.Numerals.{add-one}
 use native.Mathlib.Omega.{arith}
-use lib.ListN.{length, get_or, take, drop, drop_of_length-le, length-append}
-use lib.Seq.{paste, drop-cons, length-paste, take-paste, take-length}
-use Rattle.digits.specs.Sheets.{Sheet, sheet, wrote, wrote_all, joined, line_text}
+use lib.ListN.{length, get_or, take, length-append}
+use lib.Seq.{paste, length-paste, take-paste, take-length}
+use Rattle.std.proofs.lemmas.List.Edits.{paste_none, paste-paste}
+use Rattle.rows.proofs.Values.{values}
+use Rattle.digits.specs.declared.Sheet.{Sheet}
+use Rattle.digits.specs.Sheets.{wrote, wrote_all, joined, line_text}
 use Rattle.digits.specs.Texts.{cut}
-use Rattle.digits.proofs.Digits.{cut_once, goes_in}
+use Rattle.digits.proofs.Digits.{cut_once, goes_in, stays_out}
 
 -- A line that is cut before its LF is put is the line cut once.
 pub line_once : (bs : List ℕ) → line_text (cut bs) ≡ line_text bs
 line_once bs = cut_once bs _
 
-pub wrote_more : (ls : List (List ℕ)) (k : ℕ) (z : List ℕ) (s : Sheet) → k < length ls
-    → wrote_all s (drop k ls) ≡ wrote_all (wrote s (get_or ls k z)) (drop (suc k) ls)
-unfolding wrote_all
-wrote_more ls k z s h = rw (drop-cons ls k z h)
-
--- none is left
-pub wrote_all_lem : (ls : List (List ℕ)) (k : ℕ) (s : Sheet) → length ls ≤ k → wrote_all s (drop k ls) ≡ s
-unfolding wrote_all
-wrote_all_lem ls k s h = rw (drop_of_length-le ls h)
-
 -- some lines, and then the others
-pub wrote_then : (s : Sheet) (ls more : List (List ℕ)) → wrote_all s (ls ++ more) ≡ wrote_all (wrote_all s ls) more
+pub wrote_then : {N : ℕ} (s : Sheet N) (ls more : List (List ℕ)) → wrote_all s (ls ++ more) ≡ wrote_all (wrote_all s ls) more
 unfolding wrote_all
 wrote_then s [] more = refl
 wrote_then s (bs ∷ ls) more = wrote_then (wrote s bs) ls more
 
+-- ---- a line more
+
+-- A sheet t that has a line more than s.
+abbrev pub Adds : {N : ℕ} → Sheet N → List ℕ → Sheet N → Type 0
+Adds s bs t = t ≡ wrote s (line_text bs)
+
+-- One that has the lines more that a function has at 0, 1, 2 .., n of them.
+abbrev pub AddsAll : {N : ℕ} → Sheet N → (ℕ → List ℕ) → ℕ → Sheet N → Type 0
+AddsAll s f n t = t ≡ wrote_all s (values (λ k. line_text (f k)) n)
+
+pub adds : {N : ℕ} (s : Sheet N) {t : Sheet N} {x : List ℕ} (bs : List ℕ) → Adds s x t → x ≡ cut bs → Adds s bs t
+adds s bs e f = e ∙ rw (f, line_once)
+
+next : {N : ℕ} (s : Sheet N) (f : ℕ → List ℕ) (k : ℕ) → wrote (wrote_all s (values f k)) (f k) ≡ wrote_all s (values f (suc k))
+unfolding wrote_all
+next s f zero = refl
+next s f (suc k) = next (wrote s (f 0)) (λ i. f (suc i)) k
+
+pub adds_next : {N : ℕ} (s : Sheet N) (f : ℕ → List ℕ) (k : ℕ) {t u : Sheet N} {x : List ℕ} → AddsAll s f k t → Adds t x u → x ≡ cut (f k)
+    → AddsAll s f (k + 1) u
+adds_next s f k all one e = rw (one, all, e, line_once, add-one) (next s (λ i. line_text (f i)) k)
+
+-- one more of a list's pieces
+pub wrote_item : {A : Type 0} {N : ℕ} (s : Sheet N) (f : A → List ℕ) (l : List A) (k : ℕ) (z : A) → k < length l
+    → wrote (wrote_all s (map f (take k l))) (f (get_or l k z)) ≡ wrote_all s (map f (take (k + 1) l))
+unfolding wrote_all
+wrote_item s f l k z h = rw add-one (item s l k h)
+  where
+    item : {N : ℕ} (s : Sheet N) (l : List _) (k : ℕ) → k < length l → wrote (wrote_all s (map f (take k l))) (f (get_or l k z)) ≡ wrote_all s (map f (take (suc k) l))
+    item s [] k h = absurd (omega arith)
+    item s (x ∷ l) zero h = refl
+    item s (x ∷ l) (suc k) h = item (wrote s (f x)) l k (omega arith)
+
+each : {A : Type 0} (f : A → List ℕ) (l : List A) → map line_text (map f l) ≡ map (λ x. line_text (f x)) l
+each f [] = refl
+each f (x ∷ l) = ap (◌∷◌ (line_text (f x))) (each f l)
+
+-- one more of a list's lines
+pub adds_item : {A : Type 0} {N : ℕ} (s : Sheet N) (f : A → List ℕ) (l : List A) (k : ℕ) (z : A) {t u : Sheet N} {x : List ℕ} → k < length l
+    → t ≡ wrote_all s (map line_text (map f (take k l))) → Adds t x u → x ≡ cut (f (get_or l k z)) → u ≡ wrote_all s (map line_text (map f (take (k + 1) l)))
+adds_item s f l k z h before one e =
+    rw (one, before, e, line_once, each f (take k l), each f (take (k + 1) l)) (wrote_item s (λ x. line_text (f x)) l k z h)
+
 -- ---- pieces that all have room
 
--- A sheet on which these bytes were written from a place on.
-abbrev pub Holds : List ℕ → ℕ → List ℕ → Sheet → Type 0
-Holds bytes at more s =
-    (s.at ≡ at + length more) × (length s.bytes ≡ length bytes) × (take s.at s.bytes ≡ take at bytes ++ more)
+pub wrote_in : {N : ℕ} (s : Sheet N) (bs : List ℕ) → s.len + length bs ≤ length s.bytes
+    → ◌≡◌ {A = Sheet N} (record { bytes = paste s.bytes s.len bs (length bs); len = s.len + length bs }) (wrote s bs)
+wrote_in s bs h = let has = goes_in s.bytes s.len bs h in rw (has.0, has.1)
 
-joins : (s : Sheet) (ls : List (List ℕ)) (bytes : List ℕ) (at : ℕ) → s ≡ sheet bytes at → at + length (joined ls) ≤ length bytes
-    → Holds bytes at (joined ls) (wrote_all s ls)
-unfolding wrote_all
-joins s [] bytes at e h = rw e (omega arith, refl, sym (append-nil _))
-joins s (bs ∷ more) bytes at e h =
-    let sum = length-append bs (joined more) in
-    let has = goes_in bytes at bs (omega arith) in
-    let size = length-paste bytes at bs (length bs) (omega arith) (omega arith) in
-    let rest = joins (wrote s bs) more (paste bytes at bs (length bs)) (at + length bs) (rw (e, has.0, has.1)) (omega arith) in (
-      omega (arith, rest.0),
-      rest.1 ∙ size,
-      rest.2 ∙ rw (take-paste bytes at bs (length bs) (omega arith) (omega arith), take-length, append_assoc),
+pub wrote_out : {N : ℕ} (s : Sheet N) (bs : List ℕ) → length s.bytes < s.len + length bs → s ≡ wrote s bs
+wrote_out s bs h = let has = stays_out s.bytes s.len bs h in rw (← has.0, ← has.1)
+
+pub wrote_none : {N : ℕ} (s : Sheet N) → s.len ≤ length s.bytes → s ≡ wrote s []
+wrote_none {N = N} s h =
+    let same : ◌≡◌ {A = Sheet N} s (record { bytes = paste s.bytes s.len [] 0; len = s.len + 0 }) = rw (← paste_none s.bytes s.len [], add-zero) refl in
+    same ∙ wrote_in s [] (omega arith)
+
+-- one behind the other
+pub wrote_both : {N : ℕ} (s : Sheet N) (a b : List ℕ) → s.len + length (a ++ b) ≤ length s.bytes → wrote (wrote s a) b ≡ wrote s (a ++ b)
+wrote_both {N = N} s a b h =
+    let sum = length-append a b in
+    let t : Sheet N = record { bytes = paste s.bytes s.len a (length a); len = s.len + length a } in
+    let size = length-paste s.bytes s.len a (length a) (omega arith) (omega arith) in
+    let far : s.len + length a + length b ≡ s.len + length (a ++ b) = omega arith in
+    ap (λ (u : Sheet N). wrote u b) (sym (wrote_in s a (omega arith)))
+    ∙ sym (wrote_in t b (omega arith))
+    ∙ rw (paste-paste s.bytes s.len a b (length a) (length b) refl refl (omega arith), ← sum, far) (wrote_in s (a ++ b) h)
+
+-- A sheet t on which these bytes were written behind what stood on s.
+abbrev pub Holds : {N : ℕ} → Sheet N → List ℕ → Sheet N → Type 0
+Holds s more t = (t.len ≡ s.len + length more) × (length t.bytes ≡ length s.bytes) × (take t.len t.bytes ≡ take s.len s.bytes ++ more)
+
+one : {N : ℕ} (s : Sheet N) (bs : List ℕ) → s.len + length bs ≤ length s.bytes → Holds s bs (wrote s bs)
+one s bs h =
+    let has = goes_in s.bytes s.len bs h in
+    rw (← has.0, ← has.1) (
+      refl,
+      length-paste s.bytes s.len bs (length bs) (omega arith) (omega arith),
+      rw (take-paste s.bytes s.len bs (length bs) (omega arith) (omega arith), take-length),
     )
 
-pub room : {s : Sheet} (ls : List (List ℕ)) (bytes : List ℕ) (at : ℕ) → s ≡ wrote_all (sheet bytes at) ls → at + length (joined ls) ≤ length bytes
-    → Holds bytes at (joined ls) s
-room ls bytes at e h = rw e (joins (sheet bytes at) ls bytes at refl h)
+joins : {N : ℕ} (s : Sheet N) (ls : List (List ℕ)) → s.len + length (joined ls) ≤ length s.bytes → Holds s (joined ls) (wrote_all s ls)
+unfolding wrote_all
+joins s [] h = (omega arith, refl, sym (append-nil _))
+joins s (bs ∷ more) h =
+    let sum = length-append bs (joined more) in
+    let first = one s bs (omega arith) in
+    let rest = joins (wrote s bs) more (omega (arith, first.0, first.1)) in
+    (omega (arith, first.0, rest.0), rest.1 ∙ first.1, rest.2 ∙ rw (first.2, append_assoc))
+
+pub room : {N : ℕ} (s : Sheet N) {t : Sheet N} (ls : List (List ℕ)) → t ≡ wrote_all s ls → s.len + length (joined ls) ≤ length s.bytes → Holds s (joined ls) t
+room s ls e h = rw e (joins s ls h)

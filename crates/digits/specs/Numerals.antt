@@ -1,5 +1,5 @@
 -- The format page, "Lines and words": numbers and bytes as they are written. Assumes nothing.
-use Rattle.std.specs.Prelude.{cond, List, [], ◌∷◌, ◌++◌, ℕ, zero, suc, ◌+◌, ◌-◌, ◌/◌, ◌%◌, eqb, ltb, length, replicate}
+use Rattle.std.specs.Prelude.{cond, List, [], ◌∷◌, ◌++◌, ℕ, zero, suc, ◌+◌, ◌-◌, ◌/◌, ◌%◌, ltb, length, replicate}
 use Prim.Native.Char.{code}
 
 -- "upper case": the digit that stands for a number below 16.
@@ -28,19 +28,18 @@ unfoldable pub pairs : List ℕ → List ℕ
 pairs [] = []
 pairs (b ∷ bs) = glyph (b / 16) ∷ glyph (b % 16) ∷ pairs bs
 
--- The digit at the place i of a byte string, if b is the byte whose digits stand there: the high one first.
-abbrev pub digit_at : ℕ → ℕ → ℕ
-digit_at b i = glyph (cond (eqb (i % 2) 0) (b / 16) (b % 16))
-
 -- "an empty one is `-`".
 abbrev pub bytes_text : List ℕ → List ℕ
 bytes_text [] = code "-" ∷ []
 bytes_text (b ∷ bs) = pairs (b ∷ bs)
 
+abbrev pub blanks : ℕ → List ℕ
+blanks n = replicate n (code " ")
+
 -- A text at the right end of a column.
 abbrev pub right_in : ℕ → List ℕ → List ℕ
-right_in width bs = replicate (width - length bs) (code " ") ++ bs
+right_in width bs = blanks (width - length bs) ++ bs
 
 -- A text with blanks behind it up to a column.
 abbrev pub padded : ℕ → List ℕ → List ℕ
-padded width bs = bs ++ replicate (width - length bs) (code " ")
+padded width bs = bs ++ blanks (width - length bs)

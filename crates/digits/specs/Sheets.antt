@@ -1,20 +1,14 @@
--- A buffer that lines are written into, one after the other: what it holds and how far it is written. Assumes nothing.
+-- A sheet that lines are written on, one after the other: what it holds and how far it is written. Assumes nothing.
 use Rattle.std.specs.Prelude.{List, [], ◌∷◌, ◌++◌, ℕ}
 use Prim.Native.Char.{code}
 use Rattle.digits.specs.Texts.{cut, written_at, after}
-
-pub record Sheet : Type 0 where
-  pub bytes : List ℕ
-  pub at : ℕ
-
-abbrev pub sheet : List ℕ → ℕ → Sheet
-sheet bytes at = record { bytes = bytes; at = at }
+use Rattle.digits.specs.declared.Sheet.{Sheet}
 
 -- A piece is written whole or, where there is no room, not at all.
-abbrev pub wrote : Sheet → List ℕ → Sheet
-wrote s bs = sheet (written_at s.bytes s.at bs) (after s.bytes s.at bs)
+abbrev pub wrote : {N : ℕ} → Sheet N → List ℕ → Sheet N
+wrote s bs = record { bytes = written_at s.bytes s.len bs; len = after s.bytes s.len bs }
 
-unfoldable pub wrote_all : Sheet → List (List ℕ) → Sheet
+unfoldable pub wrote_all : {N : ℕ} → Sheet N → List (List ℕ) → Sheet N
 wrote_all s [] = s
 wrote_all s (bs ∷ more) = wrote_all (wrote s bs) more
 

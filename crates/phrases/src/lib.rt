@@ -1,5 +1,5 @@
 // What is said of each answer of a call.
-#![tactic(auto)]
+#![tactic(auto, using(digits::proofs::Digits::one_by_one))]
 
 ghost use Rattle.std.specs.Prelude.{◌++◌, ◌≡◌};
 ghost use Rattle.digits.specs.Texts.{said, cut};
@@ -15,14 +15,14 @@ use senses::Sense;
 fn put_sense(t: Text, s: Sense) -> Text
     ensures { said result ≡ cut (said t ++ slashed_text s) }
 {
-    digits::put_sense(t, s.key, s.asc, s.ascq, b' ', b'/')
+    t.put_sense(s.key, s.asc, s.ascq, b' ', b'/')
 }
 
 fn put_due(t: Text, s: Option<Sense>) -> Text
     ensures { said result ≡ cut (said t ++ Phrases.due_text s) }
 {
     match s {
-        None => digits::put_all(t, b" -"),
+        None => t.put_all(b" -"),
         Some(sense) => put_sense(t, sense),
     }
 }
@@ -30,7 +30,7 @@ fn put_due(t: Text, s: Option<Sense>) -> Text
 fn refused(r: Refusal) -> Text
     ensures { said result ≡ cut (refused_text r) }
 {
-    let number = digits::put_decimal(digits::phrase(b"refused "), refusals::number(r));
+    let number = Text::of(b"refused ").put_decimal(refusals::number(r));
     put_due(number, refusals::sense_of(r))
 }
 
@@ -38,7 +38,7 @@ pub fn called(a: Result<(), Refusal>) -> Text
     ensures { said result ≡ cut (called_text a) }
 {
     match a {
-        Ok(()) => digits::phrase(b"ok"),
+        Ok(()) => Text::of(b"ok"),
         Err(r) => refused(r),
     }
 }
@@ -47,8 +47,8 @@ pub fn accepted(a: Result<Acceptance, Refusal>) -> Text
     ensures { said result ≡ cut (accepted_text a) }
 {
     match a {
-        Ok(Acceptance::GoodDue) => digits::phrase(b"ok good"),
-        Ok(Acceptance::Pending) => digits::phrase(b"ok pending"),
+        Ok(Acceptance::GoodDue) => Text::of(b"ok good"),
+        Ok(Acceptance::Pending) => Text::of(b"ok pending"),
         Err(r) => refused(r),
     }
 }
@@ -56,17 +56,15 @@ pub fn accepted(a: Result<Acceptance, Refusal>) -> Text
 fn put_registers(t: Text, q: Registers) -> Text
     ensures { said result ≡ cut (said t ++ registers_text q) }
 {
-    let command = digits::put_number(t, q.command as u32);
-    let feature = digits::put_number(command, q.feature as u32);
-    let count = digits::put_number(feature, q.count as u32);
-    digits::put_number(count, q.lba)
+    let registers = t.put_number(q.command as u32).put_number(q.feature as u32);
+    registers.put_number(q.count as u32).put_number(q.lba)
 }
 
 pub fn sent(n: Result<Registers, Refusal>) -> Text
     ensures { said result ≡ cut (sent_text n) }
 {
     match n {
-        Ok(q) => put_registers(digits::phrase(b"ok"), q),
+        Ok(q) => put_registers(Text::of(b"ok"), q),
         Err(r) => refused(r),
     }
 }
@@ -76,8 +74,8 @@ fn quiet_or_held(s: Option<Sense>) -> Text
     ensures { said result ≡ cut (quiet_text s) }
 {
     match s {
-        None => digits::phrase(b"ok end quiet"),
-        Some(_) => digits::phrase(b"ok end held"),
+        None => Text::of(b"ok end quiet"),
+        Some(_) => Text::of(b"ok end held"),
     }
 }
 
@@ -86,8 +84,8 @@ fn end_head(status: Status, s: Option<Sense>) -> Text
 {
     match status {
         Status::NoStatus => quiet_or_held(s),
-        Status::GoodStatus => digits::phrase(b"ok end good"),
-        Status::CheckCondition => digits::phrase(b"ok end fail"),
+        Status::GoodStatus => Text::of(b"ok end good"),
+        Status::CheckCondition => Text::of(b"ok end fail"),
     }
 }
 
@@ -103,17 +101,15 @@ fn put_end_sense(t: Text, s: Option<Sense>) -> Text
 fn ended(r: Report) -> Text
     ensures { said result ≡ cut (end_text r) }
 {
-    let status = r.status;
-    let sense = r.sense;
-    let head = end_head(status, sense);
-    digits::put_number(put_end_sense(head, sense), r.flushes as u32)
+    let head = end_head(r.status, r.sense);
+    put_end_sense(head, r.sense).put_number(r.flushes as u32)
 }
 
 pub fn progressed(p: Result<Progress, Refusal>) -> Text
     ensures { said result ≡ cut (progress_text p) }
 {
     match p {
-        Ok(Progress::More) => digits::phrase(b"ok more"),
+        Ok(Progress::More) => Text::of(b"ok more"),
         Ok(Progress::Ended(r)) => ended(r),
         Err(r) => refused(r),
     }
@@ -123,7 +119,7 @@ pub fn before_bytes(a: Result<(), Refusal>) -> Text
     ensures { said result ≡ cut (before_bytes a) }
 {
     match a {
-        Ok(()) => digits::phrase(b"ok "),
-        Err(r) => digits::put_all(refused(r), b" buf "),
+        Ok(()) => Text::of(b"ok "),
+        Err(r) => refused(r).put_all(b" buf "),
     }
 }

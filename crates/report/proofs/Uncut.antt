@@ -21,7 +21,6 @@ use Rattle.digits.proofs.Lengths.{Within, whole, looser, ◌then◌, either, hex
 use Rattle.table.proofs.Rows.{name}
 use Rattle.table.proofs.Uncut.{settings, recovery}
 use Rattle.report.specs.Report.{not_read_text, page_head, page_row, owner_text, kind_text, fault_text, many_text, total_text, texts_by, report_texts, report_lines}
-use Rattle.refusals.specs.Refusals.{Verdict}
 use Rattle.drive.specs.declared.Record.{Record}
 
 not_read : (r : Refusal) → Within (not_read_text r) 127

@@ -15,7 +15,6 @@ use Rattle.words.specs.Codes.{codes}
 use Rattle.digits.specs.Numerals.{hex_text, decimal_text, padded}
 use Rattle.digits.specs.Sheets.{joined, line_text}
 use Rattle.table.specs.Rows.{name_text, record_text, recovery_text}
-use Rattle.refusals.specs.Refusals.{Verdict}
 use Rattle.drive.specs.declared.Record.{Record}
 
 -- "Refusals: number 1 for a page not 512 bytes": the reader gives no other number.

@@ -17,6 +17,7 @@ use Rattle.drive.specs.declared.Setting.{Setting}
 use Rattle.requests.specs.declared.Failure.{Failure}
 use Rattle.unit.specs.declared.Slot.{Slot}
 use Rattle.unit.specs.declared.Slot.TheVariants.{Empty, Waiting}
+use Rattle.requests.specs.declared.Failure.{Failure}
 use Rattle.requests.specs.declared.Stage.{Stage}
 use Rattle.requests.specs.declared.Stage.TheVariants.{Straight, Flushing}
 use Rattle.requests.specs.declared.Target.{Target}

@@ -1,18 +1,18 @@
 // `show`: a record spelled as the lines of a set-up block.
-#![tactic(auto)]
+#![tactic(auto, using(digits::proofs::Digits::one_by_one))]
 
 ghost use Rattle.std.specs.Prelude.{◌++◌, ◌≡◌, ◌<◌, get_or};
-ghost use Rattle.digits.specs.Sheets.{sheet, wrote_all};
+ghost use Rattle.digits.specs.Sheets.{wrote_all};
 ghost use Rattle.digits.specs.Texts.{said, cut};
 ghost use Rattle.asked.specs.Records;
-ghost use Rattle.asked.specs.Records.{settings_of, state_of, counts_part, after_edition, parts_of};
+ghost use Rattle.asked.specs.Records.{settings_of, state_of};
 ghost use Rattle.asked.specs.declared.Part.TheVariants.{HasOut};
 ghost use Rattle.spelling.specs.Spelling;
-ghost use Rattle.spelling.specs.Spelling.{edition_word, letter_word, setting_words, record_words, cause_word, power_words, state_words, target_word, stage_words, request_words, slot_words, spaced_text, held_words, out_words, row_words, counts_words, part_text, shown};
+ghost use Rattle.spelling.specs.Spelling.{edition_word, letter_word, setting_words, record_words, power_words, state_words, target_word, stage_words, request_words, slot_words, spaced_text, held_words, out_words, row_words, counts_words, part_text, shown};
 
 use asked::{Part, State};
 use conditions::{Cause, Condition, Power};
-use digits::Text;
+use digits::{Sheet, Text};
 use drive::{Edition, Record, Setting};
 use requests::{Failure, Request, Stage, Target};
 use senses::Sense;
@@ -24,72 +24,18 @@ fn settings_of(u: Unit, place: usize) -> Part
     requires { place < 5 }
     ensures { result ≡ settings_of u place }
 {
-    let records = u.drive.records;
-    Part::Settings(conditions::condition_at(place), records[place])
+    Part::Settings(conditions::condition_at(place), u.drive.records[place])
 }
 
 fn state_of(u: Unit) -> State
     ensures { result ≡ state_of u }
 {
-    let d = u.drive;
-    let power = d.power;
-    let idle = d.idle;
     State {
-        power,
-        idle,
+        power: u.drive.power,
+        idle: u.drive.idle,
         stopped: u.stopped,
         unsaved: u.unsaved,
     }
-}
-
-fn hosts_of(u: Unit, k: usize) -> Part
-    ensures { result ≡ get_or (Records.hosts_of u) k (HasOut u.out) }
-{
-    let slots = u.slots;
-    let held = u.held;
-    let out = u.out;
-    if k < 4 {
-        let host = k as u32;
-        return Part::HasSlot(host, unit::slot_of(slots, host));
-    }
-    if k < 8 {
-        let host = (k - 4) as u32;
-        return Part::HasHeld(host, unit::held_of(held, host));
-    }
-    Part::HasOut(out)
-}
-
-fn counts_of(u: Unit) -> Part
-    ensures { result ≡ counts_part u }
-{
-    Part::HasCounts(transitions::table_of(u.drive.counts))
-}
-
-// The parts that follow the edition, from 0.
-fn after_edition(u: Unit, k: usize) -> Part
-    ensures { result ≡ get_or (after_edition u) k (counts_part u) }
-{
-    if k < 5 {
-        return settings_of(u, k);
-    }
-    if k == 5 {
-        return Part::Stands(state_of(u));
-    }
-    if k < 15 {
-        return hosts_of(u, k - 6);
-    }
-    counts_of(u)
-}
-
-// The part that the block's line k sets, from 0.
-fn part_of(u: Unit, k: usize) -> Part
-    ensures { result ≡ get_or (parts_of u) k (counts_part u) }
-{
-    let edition = u.edition;
-    if k == 0 {
-        return Part::IsOf(edition);
-    }
-    after_edition(u, k - 1)
 }
 
 // ---- their lines
@@ -98,8 +44,8 @@ fn spell_edition(t: Text, edition: Edition) -> Text
     ensures { said result ≡ cut (said t ++ edition_word edition) }
 {
     match edition {
-        Edition::Draft => digits::put_flag(t, false),
-        Edition::Published => digits::put_flag(t, true),
+        Edition::Draft => t.put_flag(false),
+        Edition::Published => t.put_flag(true),
     }
 }
 
@@ -118,40 +64,39 @@ fn letter_of(c: Condition) -> u8
 fn spell_letter(t: Text, c: Condition) -> Text
     ensures { said result ≡ cut (said t ++ letter_word c) }
 {
-    digits::put(digits::put(t, b' '), letter_of(c))
+    t.put(b' ').put(letter_of(c))
 }
 
 fn spell_setting(t: Text, s: Setting) -> Text
     ensures { said result ≡ cut (said t ++ setting_words s) }
 {
-    let timer = s.timer;
-    digits::put_number(digits::put_flag(t, s.enabled), timer.0)
+    t.put_flag(s.enabled).put_number(s.timer.0)
 }
 
 fn spell_settings(t: Text, r: Record) -> Text
     ensures { said result ≡ cut (said t ++ Spelling.settings_words r) }
 {
-    let default = spell_setting(t, r.default);
-    let saved = spell_setting(default, r.saved);
-    spell_setting(saved, r.current)
+    let t = spell_setting(t, r.default);
+    let t = spell_setting(t, r.saved);
+    spell_setting(t, r.current)
 }
 
 pub fn spell_record(t: Text, r: Record) -> Text
     ensures { said result ≡ cut (said t ++ record_words r) }
 {
-    let recovery = r.recovery;
-    let supported = digits::put_flag(t, r.supported);
-    let saveable = digits::put_flag(supported, r.saveable);
-    let changeable = digits::put_flag(saveable, r.changeable);
-    spell_settings(digits::put_number(changeable, recovery.0), r)
+    let t = t
+        .put_flag(r.supported)
+        .put_flag(r.saveable)
+        .put_flag(r.changeable);
+    spell_settings(t.put_number(r.recovery.0), r)
 }
 
-fn spell_cause(t: Text, why: Cause) -> Text
-    ensures { said result ≡ cut (said t ++ cause_word why) }
+fn cause_word(why: Cause) -> &'static [u8]
+    ensures { result.now ≡ Spelling.cause_word why }
 {
     match why {
-        Cause::Timer => digits::put_all(t, b" timer"),
-        Cause::Command => digits::put_all(t, b" command"),
+        Cause::Timer => b" timer",
+        Cause::Command => b" command",
     }
 }
 
@@ -159,26 +104,24 @@ fn spell_power(t: Text, p: Power) -> Text
     ensures { said result ≡ cut (said t ++ power_words p) }
 {
     match p {
-        Power::Active => digits::put_all(t, b" active none"),
-        Power::Low(c, why) => spell_cause(spell_letter(t, c), why),
+        Power::Active => t.put_all(b" active none"),
+        Power::Low(c, why) => spell_letter(t, c).put_all(cause_word(why)),
     }
 }
 
 fn spell_state(t: Text, s: State) -> Text
     ensures { said result ≡ cut (said t ++ state_words s) }
 {
-    let power = s.power;
-    let idle = s.idle;
-    let count = digits::put_number(spell_power(t, power), idle.0);
-    digits::put_flag(digits::put_flag(count, s.stopped), s.unsaved)
+    let t = spell_power(t, s.power).put_number(s.idle.0);
+    t.put_flag(s.stopped).put_flag(s.unsaved)
 }
 
 fn spell_target(t: Text, target: Target) -> Text
     ensures { said result ≡ cut (said t ++ target_word target) }
 {
     match target {
-        Target::Stop => digits::put_all(t, b" stop"),
-        Target::Start => digits::put_all(t, b" start"),
+        Target::Stop => t.put_all(b" stop"),
+        Target::Start => t.put_all(b" start"),
         Target::GoTo(c) => spell_letter(t, c),
     }
 }
@@ -187,24 +130,22 @@ fn spell_stage(t: Text, stage: Stage) -> Text
     ensures { said result ≡ cut (said t ++ stage_words stage) }
 {
     match stage {
-        Stage::Straight => digits::put_number(digits::put_flag(t, false), 0),
-        Stage::Flushing(n) => digits::put_number(digits::put_flag(t, true), n as u32),
+        Stage::Straight => t.put_flag(false).put_number(0),
+        Stage::Flushing(n) => t.put_flag(true).put_number(n as u32),
     }
 }
 
 fn spell_request(t: Text, q: Request) -> Text
     ensures { said result ≡ cut (said t ++ request_words q) }
 {
-    let target = q.target;
-    let stage = q.stage;
-    spell_stage(digits::put_flag(spell_target(t, target), q.immed), stage)
+    spell_stage(spell_target(t, q.target).put_flag(q.immed), q.stage)
 }
 
 fn spell_slot(t: Text, s: Slot) -> Text
     ensures { said result ≡ cut (said t ++ slot_words s) }
 {
     match s {
-        Slot::Empty => digits::put_all(t, b" -"),
+        Slot::Empty => t.put_all(b" -"),
         Slot::Waiting(q) => spell_request(t, q),
     }
 }
@@ -212,14 +153,14 @@ fn spell_slot(t: Text, s: Slot) -> Text
 fn spell_sense(t: Text, s: Sense) -> Text
     ensures { said result ≡ cut (said t ++ spaced_text s) }
 {
-    digits::put_sense(t, s.key, s.asc, s.ascq, b' ', b' ')
+    t.put_sense(s.key, s.asc, s.ascq, b' ', b' ')
 }
 
 fn spell_held(t: Text, h: Option<Failure>) -> Text
     ensures { said result ≡ cut (said t ++ held_words h) }
 {
     match h {
-        None => digits::put_all(t, b" -"),
+        None => t.put_all(b" -"),
         Some(f) => spell_sense(t, requests::failure_sense(f)),
     }
 }
@@ -228,8 +169,8 @@ fn spell_out(t: Text, out: Option<u32>) -> Text
     ensures { said result ≡ cut (said t ++ out_words out) }
 {
     match out {
-        None => digits::put_all(t, b" -"),
-        Some(host) => digits::put_number(t, host),
+        None => t.put_all(b" -"),
+        Some(host) => t.put_number(host),
     }
 }
 
@@ -237,44 +178,54 @@ fn spell_out(t: Text, out: Option<u32>) -> Text
 fn spell_row(t: Text, row: [u32; 2]) -> Text
     ensures { said result ≡ cut (said t ++ row_words row) }
 {
-    digits::put_number(digits::put_number(t, row[0]), row[1])
+    t.put_number(row[0]).put_number(row[1])
 }
 
 fn spell_counts(t: Text, table: [[u32; 2]; 6]) -> Text
     ensures { said result ≡ cut (said t ++ counts_words table) }
 {
-    let active = spell_row(t, table[0]);
-    let a = spell_row(active, table[1]);
-    let b = spell_row(a, table[2]);
-    let c = spell_row(b, table[3]);
-    let y = spell_row(c, table[4]);
-    spell_row(y, table[5])
+    let t = spell_row(t, table[0]);
+    let t = spell_row(t, table[1]);
+    let t = spell_row(t, table[2]);
+    let t = spell_row(t, table[3]);
+    let t = spell_row(t, table[4]);
+    spell_row(t, table[5])
 }
 
 // The line that sets a part.
+#[tactic(auto, using(digits::proofs::Digits::one_by_one), unfolding(crate::specs::Spelling::part_text))]
 fn spell(p: Part) -> Text
     ensures { said result ≡ cut (part_text p) }
 {
     match p {
-        Part::IsOf(edition) => spell_edition(digits::phrase(b"ed"), edition),
-        Part::Settings(c, r) => spell_record(spell_letter(digits::phrase(b"c"), c), r),
-        Part::Stands(s) => spell_state(digits::phrase(b"state"), s),
-        Part::HasSlot(host, s) => spell_slot(digits::put_number(digits::phrase(b"slot"), host), s),
-        Part::HasHeld(host, h) => spell_held(digits::put_number(digits::phrase(b"held"), host), h),
-        Part::HasOut(out) => spell_out(digits::phrase(b"out"), out),
-        Part::HasCounts(table) => spell_counts(digits::phrase(b"counts"), table),
+        Part::IsOf(edition) => spell_edition(Text::of(b"ed"), edition),
+        Part::Settings(c, r) => spell_record(spell_letter(Text::of(b"c"), c), r),
+        Part::Stands(s) => spell_state(Text::of(b"state"), s),
+        Part::HasSlot(host, s) => spell_slot(Text::of(b"slot").put_number(host), s),
+        Part::HasHeld(host, h) => spell_held(Text::of(b"held").put_number(host), h),
+        Part::HasOut(out) => spell_out(Text::of(b"out"), out),
+        Part::HasCounts(table) => spell_counts(Text::of(b"counts"), table),
     }
 }
 
 // `show`: "a `unit` block that would set it".
-pub fn show(u: Unit, out: &mut [u8], at: usize) -> usize
-    ensures { sheet out.new result ≡ wrote_all (sheet out.old at) (shown u) }
+#[tactic(auto, unfolding(digits::specs::Sheets::wrote_all))]
+pub fn show<const N: usize>(u: Unit, out: &mut Sheet<N>)
+    ensures { out.new ≡ wrote_all out.old (shown u) }
 {
-    let mut n = digits::put_line(digits::phrase(b"unit"), out, at);
-    let mut k = 0;
-    while k < 17 {
-        n = digits::put_line(spell(part_of(u, k)), out, n);
-        k += 1;
+    out.put_line(Text::of(b"unit"));
+    out.put_line(spell(Part::IsOf(u.edition)));
+    for place in 0..5 {
+        out.put_line(spell(settings_of(u, place)));
     }
-    digits::put_line(digits::phrase(b"end"), out, n)
+    out.put_line(spell(Part::Stands(state_of(u))));
+    for host in 0..4 {
+        out.put_line(spell(Part::HasSlot(host, unit::slot_of(u.slots, host))));
+    }
+    for holder in 0..4 {
+        out.put_line(spell(Part::HasHeld(holder, unit::held_of(u.held, holder))));
+    }
+    out.put_line(spell(Part::HasOut(u.out)));
+    out.put_line(spell(Part::HasCounts(transitions::table_of(u.drive.counts))));
+    out.put_line(Text::of(b"end"));
 }

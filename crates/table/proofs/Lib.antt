@@ -1,3 +1,3 @@
-pub mod Rows
 pub mod Lines
+pub mod Rows
 pub mod Uncut

@@ -1,5 +1,5 @@
 -- The power log for the eye, whole. Assumes nothing.
-use Rattle.std.specs.Prelude.{cond, List, [], ◌∷◌, map, ℕ, ◌-◌, eqb, ltb}
+use Rattle.std.specs.Prelude.{cond, List, [], ◌∷◌, map, ℕ, eqb}
 use Rattle.unit.specs.declared.Unit.{Unit}
 use Rattle.words.specs.Codes.{codes}
 use Rattle.digits.specs.Sheets.{line_text}
@@ -20,10 +20,6 @@ abbrev pub mark_at : Unit → ℕ → List ℕ
 mark_at u k =
     cond (eqb k 0) (edition_text u.edition)
     (cond (eqb k 1) (stopped_text u) (cond (eqb k 2) (unsaved_text u) (cond (eqb k 3) (idle_text u) (out_text u.out))))
-
--- The edition and the marks, then the hosts.
-abbrev pub below_at : Unit → ℕ → List ℕ
-below_at u k = cond (ltb k 5) (mark_at u k) (host_text u (k - 5))
 
 -- The head and its rule, Active and the five conditions, the edition, the marks with the idle count and the command out,
 -- the four hosts, the counts.

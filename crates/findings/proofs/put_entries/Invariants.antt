@@ -1,14 +1,10 @@
--- What is left to write after i entries completes them at every turn. The measure is the number of entries left.
+-- After k turns the first k entries are written.
 use mathlib.Core.Path.{◌≡◌}
-use Prim.Native.Nat.{◌-◌, ◌≤◌}
-use lib.ListN.{length, drop}
-use Rattle.digits.specs.Sheets.{sheet, wrote_all}
-use Rattle.findings.proofs.Entries.{entries}
+use mathlib.Core.List.{map}
+use lib.ListN.{take}
+use Rattle.digits.specs.Sheets.{wrote_all}
+use Rattle.findings.specs.Findings.{entry_text}
 use Rattle.findings.proofs.put_entries.Given as goal
 
-abbrev pub invariant-loop-i : goal.invariant-loop-i
-invariant-loop-i l = (l.i ≤ l.n) × (length l.out ≡ length l.initial.out)
-    × (wrote_all (sheet l.out l.end) (drop l.i (entries l.n l.listed)) ≡ wrote_all (sheet l.initial.out l.at) (entries l.n l.listed))
-
-abbrev pub decreases-loop-i : goal.decreases-loop-i
-decreases-loop-i l = l.n - l.i
+abbrev pub invariant-loop-fault : goal.invariant-loop-fault
+invariant-loop-fault g l = l.out ≡ wrote_all l.initial.out (map entry_text (take l.fault-index l.listed))

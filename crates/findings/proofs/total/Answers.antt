@@ -7,4 +7,4 @@ use Rattle.findings.proofs.total.Goals as goal
 
 pub returns : goal.returns
 returns c = let n = c.args.n in
-    (rw (c.phrase.ensures, cut_once) at c.put_number.ensures) ∙ cut_short _ (omega (arith, (total_within n).bound))
+    (rw (c.of.ensures, cut_once) at c.put_number.ensures) ∙ cut_short _ (omega (arith, (total_within n).bound))

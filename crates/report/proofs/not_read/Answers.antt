@@ -5,4 +5,4 @@ use Rattle.report.proofs.not_read.Goals as goal
 
 pub returns : goal.returns
 returns c = let told = rw c.number.ensures at c.put_decimal-number.ensures in
-    put_after [] _ _ (put_after [] _ _ c.phrase.ensures told) c.put_all.ensures
+    put_after [] _ _ (put_after [] _ _ c.of.ensures told) c.put_all.ensures

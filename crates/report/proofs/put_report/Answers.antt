@@ -1,4 +1,4 @@
--- A report has room in the buffer, so that it stands there whole.
+-- A report has room on the sheet, so that it stands there whole.
 use mathlib.Core.Path.{sym}
 use Prim.Native.Nat.{◌≤◌}
 use native.Mathlib.Omega.{arith}
@@ -11,6 +11,7 @@ use Rattle.report.proofs.put_report.Goals as goal
 
 pub returns : goal.returns
 returns c = let page = c.args.page.now in
-    let has = room (report_lines page) c.args.out.now 0 c.put_lines.ensures (omega (arith, report_fits page)) in
-    let fits : c.put_lines.result ≤ length c.put_lines.new.out = omega (arith, report_fits page, has.0, has.1) in
+    let out = c.put_lines.new.out in
+    let has = room (record { bytes = c.args.out.now.bytes; len = 0 }) (report_lines page) c.put_lines.ensures (omega (arith, report_fits page)) in
+    let fits : out.len ≤ length out.bytes = omega (arith, report_fits page, has.0, has.1) in
     record { fits = fits; counted = sym (length-take-le _ _ fits); stands = has.2 }

@@ -8,5 +8,5 @@ use Rattle.report.proofs.settings_row.Goals as goal
 
 pub returns : goal.returns
 returns c = let is = c.args.c in
-    let named = rw (c.empty.ensures, cut_short (name_text is) (omega (arith, (name is).bound))) at c.put_name.ensures in
+    let named = rw (c.name_of.ensures, cut_short (name_text is) (omega (arith, (name is).bound))) at c.of.ensures in
     put_after [] _ _ (put_after [] _ _ (rw named at c.pad_to-name.ensures) c.put_record.ensures) c.put_recovery.ensures

@@ -1,14 +1,14 @@
--- What is left to write after k lines completes the block at every turn.
-use mathlib.Core.Path.{◌≡◌}
-use Prim.Native.Nat.{◌≤◌, ◌-◌}
-use lib.ListN.{length}
-use Rattle.digits.specs.Sheets.{sheet, wrote_all}
-use Rattle.spelling.proofs.Lines.{left}
+-- After k turns the first k of a loop's lines are written.
+use Rattle.asked.specs.Records.{settings_of, slot_part, held_part}
+use Rattle.digits.proofs.Sheets.{AddsAll}
+use Rattle.spelling.specs.Spelling.{part_text}
 use Rattle.spelling.proofs.show.Given as goal
 
-abbrev pub invariant-loop-k : goal.invariant-loop-k
-invariant-loop-k l = (l.k ≤ 17) × (length l.out ≡ length l.initial.out)
-    × (wrote_all (sheet l.out l.n) (left l.u l.k) ≡ wrote_all (sheet l.initial.out l.initial.n) (left l.u 0))
+abbrev pub invariant-loop-place : goal.invariant-loop-place
+invariant-loop-place g l = AddsAll l.initial.out (λ k. part_text (settings_of l.u k)) l.place l.out
 
-abbrev pub decreases-loop-k : goal.decreases-loop-k
-decreases-loop-k l = 17 - l.k
+abbrev pub invariant-loop-host : goal.invariant-loop-host
+invariant-loop-host g l = AddsAll l.initial.out (λ k. part_text (slot_part l.u k)) l.host l.out
+
+abbrev pub invariant-loop-holder : goal.invariant-loop-holder
+invariant-loop-holder g l = AddsAll l.initial.out (λ k. part_text (held_part l.u k)) l.holder l.out

@@ -1,4 +1,4 @@
--- By the stage.
+-- The words, and the count behind them.
 use Rattle.digits.proofs.Digits.{cut_more}
 use Rattle.table.proofs.put_stage.Goals as goal
 

@@ -1,22 +1,39 @@
--- What is left to write after k lines completes the table at every turn.
-use mathlib.Core.Path.{sym, ◌∙◌}
-use mathlib.Core.List.{[]}
+-- Each line is written behind those before it, and a loop's lines one behind the other.
+use mathlib.Core.Path.{◌≡◌}
 use native.Mathlib.Omega.{arith}
-use native.Mathlib.Numerals.{add-one}
-use Rattle.digits.specs.Sheets.{sheet, line_text}
-use Rattle.digits.proofs.Sheets.{line_once, wrote_more, wrote_all_lem}
-use Rattle.table.specs.Table.{table_lines}
-use Rattle.table.proofs.Lines.{line_text_lem, line_count}
+use Rattle.digits.proofs.Sheets.{adds, adds_next}
+use Rattle.table.specs.Below.{host_text}
+use Rattle.table.specs.Counts.{count_row}
+use Rattle.table.proofs.Lines.{condition_row, table_by}
 use Rattle.table.proofs.put_table.Goals as goal
 
-pub loop-k-preserved : goal.loop-k-preserved
-loop-k-preserved c = let u = c.args.u in
-    let k = c.loop-k.k in
-    let next = wrote_more (table_lines u) k (line_text []) (sheet c.loop-k.out c.loop-k.n) (omega (arith, line_count u)) in (
-      omega arith,
-      rw (add-one, c.put_line-n.ensures, c.line_at.ensures, line_once, ← line_text_lem u k) (sym next ∙ c.loop-k.invariant.1),
-    )
+pub loop-place-preserved : goal.loop-place-preserved
+loop-place-preserved g c =
+    adds_next _ (condition_row c.args.u) c.loop-place.place c.loop-place.invariant c.put_line-in-loop-place.ensures c.record_row.ensures
+
+pub loop-host-preserved : goal.loop-host-preserved
+loop-host-preserved g c =
+    adds_next _ (host_text c.args.u) c.loop-host.host c.loop-host.invariant c.put_line-in-loop-host.ensures c.host_line.ensures
+
+pub loop-row-preserved : goal.loop-row-preserved
+loop-row-preserved g c =
+    adds_next _ (count_row c.args.u) c.loop-row.row c.loop-row.invariant c.put_line-in-loop-row.ensures c.count_row.ensures
 
 pub returns : goal.returns
-returns c = let u = c.args.u in
-    sym (wrote_all_lem (table_lines u) c.loop-k.k (sheet c.loop-k.out c.loop-k.n) (omega (arith, line_count u))) ∙ c.loop-k.invariant.1
+returns g c =
+    let places : c.loop-place.place ≡ 5 = omega arith in
+    let hosts : c.loop-host.host ≡ 4 = omega arith in
+    let rows : c.loop-row.row ≡ 6 = omega arith in
+    table_by c.args.u c.args.out.now
+    (adds _ _ c.put_line.ensures c.of.ensures)
+    (adds _ _ c.put_line-2.ensures c.of-2.ensures)
+    (adds _ _ c.put_line-3.ensures c.active_row.ensures)
+    (rw places at c.loop-place.invariant)
+    (adds _ _ c.put_line-4.ensures c.edition_line.ensures)
+    (adds _ _ c.put_line-5.ensures c.flag_line.ensures)
+    (adds _ _ c.put_line-6.ensures c.flag_line-2.ensures)
+    (adds _ _ c.put_line-7.ensures c.idle_line.ensures)
+    (adds _ _ c.put_line-8.ensures c.out_line.ensures)
+    (rw hosts at c.loop-host.invariant)
+    (adds _ _ c.put_line-9.ensures c.of-3.ensures)
+    (rw rows at c.loop-row.invariant)

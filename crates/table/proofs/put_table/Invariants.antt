@@ -1,13 +1,15 @@
--- What is left to write after k lines completes the table at every turn.
-use mathlib.Core.Path.{◌≡◌}
-use Prim.Native.Nat.{◌-◌}
-use lib.ListN.{length, drop}
-use Rattle.digits.specs.Sheets.{sheet, wrote_all}
-use Rattle.table.specs.Table.{table_lines}
+-- After k turns the first k of a loop's lines are written.
+use Rattle.digits.proofs.Sheets.{AddsAll}
+use Rattle.table.specs.Below.{host_text}
+use Rattle.table.specs.Counts.{count_row}
+use Rattle.table.proofs.Lines.{condition_row}
 use Rattle.table.proofs.put_table.Given as goal
 
-abbrev pub invariant-loop-k : goal.invariant-loop-k
-invariant-loop-k l = (length l.out ≡ length l.initial.out) × (wrote_all (sheet l.out l.n) (drop l.k (table_lines l.u)) ≡ wrote_all (sheet l.initial.out l.at) (table_lines l.u))
+abbrev pub invariant-loop-place : goal.invariant-loop-place
+invariant-loop-place g l = AddsAll l.initial.out (condition_row l.u) l.place l.out
 
-abbrev pub decreases-loop-k : goal.decreases-loop-k
-decreases-loop-k l = 24 - l.k
+abbrev pub invariant-loop-host : goal.invariant-loop-host
+invariant-loop-host g l = AddsAll l.initial.out (host_text l.u) l.host l.out
+
+abbrev pub invariant-loop-row : goal.invariant-loop-row
+invariant-loop-row g l = AddsAll l.initial.out (count_row l.u) l.row l.out

@@ -1,8 +1,0 @@
--- The first none of its bytes.
-use mathlib.Core.Path.{refl}
-use Rattle.digits.specs.Texts.{said}
-use Rattle.digits.proofs.empty.Goals as goal
-
-pub returns : goal.returns
-unfolding said
-returns c = refl

@@ -1,6 +1,0 @@
--- A count has room, so that nothing of it is cut before it is put at the right.
-use Rattle.digits.proofs.Lengths.{decimal_whole}
-use Rattle.table.proofs.put_count.Goals as goal
-
-pub returns : goal.returns
-returns c = rw (c.put_right.ensures, c.put_decimal.ensures, c.empty.ensures, decimal_whole)
