@@ -1,19 +1,16 @@
 -- The line's answer is what `respond` gives to the bytes that are kept; it has room, so it stands behind what was printed.
-use mathlib.Core.Path.{◌≡◌, refl, sym}
 use native.Mathlib.Omega.{arith}
-use lib.ListN.{take}
 use Rattle.digits.proofs.Sheets.{room}
-use Rattle.words.proofs.Room.{take_min}
 use Rattle.replies.specs.Lines.{response}
 use Rattle.replies.proofs.Sizes.{answer_fits}
+use Rattle.stream.specs.Streams.{kept}
 use Rattle.stream.proofs.end_line.Goals as goal
 
 pub returns : goal.returns
-returns c = let r = c.args.r in
+returns c = let session = c.args.session in
     let line = c.args.line.now in
-    let kept : take c.min-n.result line ≡ take r.len line = rw c.min-n.ensures (sym (take_min r.len line)) in
-    let step = rw kept at c.respond-step.ensures in
-    let pieces = (response r.session (take r.len line)).pieces in
-    let small = answer_fits r.session (take r.len line) in
-    let has = room pieces c.args.out.now r.at step.1 (omega (arith, small, c.requires)) in
-    (rw (step.0, has.2), refl, omega (arith, small, has.0))
+    let out = c.args.out.now in
+    let step = rw c.written.ensures at c.respond.ensures in
+    let small = answer_fits session (kept line) in
+    let has = room out (response session (kept line)).pieces step.1 (omega (arith, small)) in
+    (step.0, has.2, omega (arith, small, has.0), has.1)
