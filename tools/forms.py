@@ -25,9 +25,13 @@ def tokens(body):
     body = re.sub(r'b?"(?:\\.|[^"])*"', "s", body)
     body = re.sub(r"b?'(?:\\.|[^'])'", "c", body)
     body = re.sub(r"\b0x[0-9A-Fa-f]+\b|\b\d[\d_]*\b", "0", body)
-    words = re.findall(r"\w+|[^\w\s]", body)
+    words = re.findall(r"\w+|[^\w\s]", body) + [""]
     keep = {"let", "mut", "if", "else", "match", "while", "for", "in", "return", "as", "true", "false"}
-    return " ".join(w if w in keep or not re.match(r"[A-Za-z_]", w) else "x" for w in words)
+    out = []
+    for before, w, after in zip([""] + words, words, words[1:]):
+        called = after in ("(", "!") or before == "."
+        out.append(w if w in keep or called or not re.match(r"[A-Za-z_]", w) else "x")
+    return " ".join(out)
 
 
 def show(point, title, places):
@@ -60,17 +64,20 @@ for f, text in files.items():
         key = tokens(body)
         if len(key.split()) >= 12:
             two[key].append(f"{f}::{name}")
-show(2, "functions whose bodies are the same but for names and constants", [", ".join(v) for v in two.values() if len(v) > 1])
+show(2, "functions whose bodies are the same but for types, names and constants", [", ".join(v) for v in two.values() if len(v) > 1])
 
 three = []
 for f, text in files.items():
-    for n, line in enumerate(text.split("\n"), 1):
+    lines = text.split("\n")
+    for n, line in enumerate(lines, 1):
         if re.match(r"\s*(while|loop)\b", line) and not re.match(r"\s*while let", line):
             three.append(f"{f}:{n} {line.strip()}")
-        m = re.match(r"\s*for (\w+) in 0\.\.", line)
-        if m and m.group(1) != "_":
-            three.append(f"{f}:{n} {line.strip()}")
-show(3, "loops that count or test by hand", three)
+        m = re.match(r"(\s*)for (\w+) in [^.]*\.\.", line)
+        if m and m.group(2) != "_":
+            end = next(i for i in range(n, len(lines)) if lines[i].startswith(m.group(1) + "}"))
+            if any(re.search(r"\[[^\]]*\b" + m.group(2) + r"\b[^\]]*\]", b) for b in lines[n:end]):
+                three.append(f"{f}:{n} {line.strip()}")
+show(3, "loops by while or loop, and for loops over numbers that index", three)
 
 four = []
 for f, text in files.items():

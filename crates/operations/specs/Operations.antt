@@ -1,5 +1,5 @@
 -- Document 01, "START STOP UNIT": an operation's commands, its end report, and what its answers mean. No unit is needed.
-use Rattle.std.specs.Prelude.{Bool, true, false, ◌||◌, cond, List, ℕ, ◌+◌, eqb, ltb, get_or, Ok, Some, None, Result}
+use Rattle.std.specs.Prelude.{Bool, true, false, ◌||◌, cond, List, ℕ, ◌+◌, eqb, ltb, get_or, Some, None}
 use Rattle.conditions.specs.Conditions.{place_of}
 use Rattle.drive.specs.Records.{unsupported}
 use Rattle.conditions.specs.declared.Condition.{Condition}

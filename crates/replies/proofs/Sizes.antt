@@ -39,7 +39,7 @@ use Rattle.asked.specs.declared.Line.{Line}
 use Rattle.asked.specs.declared.Line.TheVariants.{Blank, Asks, Sets, Tells, Opens, Makes, Closes, Shows, Tables}
 use Rattle.asked.specs.declared.Part.{Part}
 use Rattle.asked.specs.Records.{parts_of}
-use Rattle.blocks.specs.Sessions.{is_open, after_line, closed_with}
+use Rattle.blocks.specs.Sessions.{is_open, after_line}
 use Rattle.blocks.specs.declared.Block.{Block}
 use Rattle.blocks.specs.declared.Block.TheVariants.{UnitBlock, MakeBlock}
 use Rattle.spelling.specs.Spelling.{part_text, part_lines, shown}
@@ -57,8 +57,8 @@ use Rattle.reader.specs.PageCalls.{faults_outcome, record_outcome}
 use Rattle.pairs.specs.Pairs.{page_of}
 use Rattle.findings.specs.Findings.{entry_text, entries_of, listed_pieces, checked_pieces, faults_pieces, found_text, record_pieces}
 use Rattle.findings.proofs.Entries.{total_within, entry_within}
-use Rattle.replies.specs.Lines.{is_end, silent, ok_or_error, says_ok, made_of, ended_block, in_block, outside, response}
-use Rattle.answers.specs.Answers.{called_response, plain_outcome, unfilled, filled_pieces, filled_response, call_response, planned_outcome, made_response}
+use Rattle.replies.specs.Lines.{is_end, silent, ok_or_error, made_of, ended_block, in_block, outside, response}
+use Rattle.answers.specs.Answers.{called_response, plain_outcome, unfilled, filled_pieces, filled_response, call_response, planned_outcome}
 use Rattle.refusals.specs.Refusals.{Verdict}
 use Rattle.requests.specs.declared.Failure.{Failure}
 
