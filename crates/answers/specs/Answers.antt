@@ -1,4 +1,5 @@
 -- The format page, "Calls": what each call leaves of the unit, and the pieces of the line that it prints. Assumes nothing.
+use Rattle.std.specs.Result.{is_ok}
 use Rattle.std.specs.Prelude.{Bool, true, false, cond, List, [], ◌∷◌, map, ℕ, zero, suc, replicate, Ok, Err}
 use Rattle.drive.specs.Drives.{maker_of}
 use Rattle.readouts.specs.Readouts.{Filled, sense_outcome, log_outcome, new_page_outcome, transitions_outcome}
@@ -39,13 +40,9 @@ abbrev pub called_response : Called → CallResponse
 called_response c = one_line c.unit (called_text c.answer)
 
 -- `tick N`: "N single ticks"; "stops at the first refusal and prints it; `tick 0` makes no call and prints `ok`".
-abbrev pub is_done : Verdict → Bool
-is_done (Ok _) = true
-is_done (Err r) = false
-
 unfoldable pub ticks_after : ℕ → Called → Called
 ticks_after zero c = c
-ticks_after (suc n) c = cond (is_done c.answer) (ticks_after n (tick_outcome c.unit)) c
+ticks_after (suc n) c = cond (is_ok c.answer) (ticks_after n (tick_outcome c.unit)) c
 
 abbrev pub ticks : ℕ → Unit → Called
 ticks n u = ticks_after n (record { answer = Ok tt; unit = u })
@@ -100,7 +97,7 @@ call_response u (PageRecord c len) text = record { unit = u; pieces = record_pie
 
 -- `make`, at its `end`: "manufacture; prints `ok`, or `refused 3 -` and the record stays as it was".
 abbrev pub replaced_by : Called → Unit → Unit
-replaced_by c u = cond (is_done c.answer) c.unit u
+replaced_by c u = cond (is_ok c.answer) c.unit u
 
 -- It is asked for the edition that is planned, with what the maker says of each condition.
 abbrev pub planned_outcome : Unit → Called

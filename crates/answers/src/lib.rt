@@ -40,27 +40,21 @@ pub enum Page {
     Descriptors(u32),
 }
 
-fn is_done(a: Result<(), Refusal>) -> bool
-    ensures { result ≡ Answers.is_done a }
-{
-    a.is_ok()
-}
-
 // N single ticks; stops at the first refusal.
 fn ticks(u: Unit, n: u32) -> Called
     ensures { result ≡ Answers.ticks n u }
 {
-    let mut c = Called {
+    let mut called = Called {
         answer: Ok(()),
         unit: u,
     };
-    for _turn in 0..n {
-        if !is_done(c.answer) {
-            return c;
+    for _ in 0..n {
+        called = power::tick(called.unit);
+        if called.answer.is_err() {
+            break;
         }
-        c = power::tick(c.unit);
     }
-    c
+    called
 }
 
 fn called_by(u: Unit, call: PlainCall) -> Called
@@ -225,9 +219,7 @@ pub fn make<const N: usize>(u: Unit, call: CallLine, text: &[u8], out: &mut Shee
 fn replaced_by(c: Called, u: Unit) -> Unit
     ensures { result ≡ replaced_by c u }
 {
-    let made = c.unit;
-    let answer = c.answer;
-    if is_done(answer) { made } else { u }
+    if c.answer.is_ok() { c.unit } else { u }
 }
 
 // What the maker says of a condition.

@@ -123,5 +123,5 @@ pub fn edition_from(published: bool) -> Edition
 pub fn buffer_len(len: u32) -> usize
     ensures { (result ≡ buffer_length len) × (result ≤ 1024) }
 {
-    if len < 1024 { len as usize } else { 1024 }
+    len.min(1024) as usize
 }

@@ -36,8 +36,11 @@ unfoldable pub epc_line : List ℕ → Option Line
 epc_line line = offered (has_words 5 line) (registers_in line then λ registers. Some (Asks (Plain (Epc registers))))
 
 -- `read H`, `write H`, `next H`.
+abbrev pub only_number : ℕ → List ℕ → Option ℕ
+only_number top line = offered (has_words 2 line) (number_in top 1 line)
+
 abbrev pub only_host : List ℕ → Option ℕ
-only_host line = offered (has_words 2 line) (host_in 1 line)
+only_host line = only_number 0xFF line
 
 unfoldable pub read_line : List ℕ → Option Line
 read_line line = only_host line then λ host. Some (Asks (Plain (Read host)))
@@ -98,7 +101,7 @@ sense_line line =
 
 -- `log LEN`, `trans LEN`.
 abbrev pub only_length : List ℕ → Option ℕ
-only_length line = offered (has_words 2 line) (length_in 1 line)
+only_length line = only_number 0x400 line
 
 unfoldable pub log_line : List ℕ → Option Line
 log_line line = only_length line then λ len. Some (Asks (Log len))

@@ -3,13 +3,13 @@
 
 ghost use Rattle.std.specs.Prelude.{[], ◌≡◌, ◌≤◌, MatchOption, is_some, take};
 ghost use Rattle.words.specs.Lines.{line_in};
-ghost use Rattle.commands.specs.Commands.{only_host, only_length, tick_line, epc_line, read_line, write_line, reset_line, start_stop_line, next_line, answer_line, sense_line, log_line, transitions_line, new_page_line, make_line, cdb_in, is_cdb};
+ghost use Rattle.commands.specs.Commands.{only_number, tick_line, epc_line, read_line, write_line, reset_line, start_stop_line, next_line, answer_line, sense_line, log_line, transitions_line, new_page_line, make_line, cdb_in, is_cdb};
 
 use asked::{CallLine, Line, PlainCall};
 use registers::Registers;
 use requests::Reply;
 
-// START STOP UNIT's bytes: the first `len` of these. A length beside them, since the layer has no heap.
+// START STOP UNIT's bytes: the first `len` of these. Stays a length beside them: the layer has no heap, so the bytes lie in fixed memory.
 #[derive(Clone, Copy)]
 pub struct CdbBytes {
     pub bytes: [u8; 40],
@@ -44,21 +44,21 @@ pub fn epc_line(line: &[u8]) -> Option<Line>
     Some(Line::Asks(CallLine::Plain(PlainCall::Epc(registers))))
 }
 
-// The host of a command that takes a host and no more.
-fn only_host(line: &[u8]) -> Option<u32>
-    ensures { result ≡ only_host line.now }
+// The number of a command that takes one and no more, if it is at most `top`.
+fn only_number(line: &[u8], top: u32) -> Option<u32>
+    ensures { result ≡ only_number top line.now }
 {
     if words::word_count(line) != 2 {
         return None;
     }
-    words::number_at(line, 1, 0xFF)
+    words::number_at(line, 1, top)
 }
 
 #[tactic(auto, unfolding(crate::specs::Commands::read_line))]
 pub fn read_line(line: &[u8]) -> Option<Line>
     ensures { result ≡ read_line line.now }
 {
-    let host = only_host(line)?;
+    let host = only_number(line, 0xFF)?;
     Some(Line::Asks(CallLine::Plain(PlainCall::Read(host))))
 }
 
@@ -66,7 +66,7 @@ pub fn read_line(line: &[u8]) -> Option<Line>
 pub fn write_line(line: &[u8]) -> Option<Line>
     ensures { result ≡ write_line line.now }
 {
-    let host = only_host(line)?;
+    let host = only_number(line, 0xFF)?;
     Some(Line::Asks(CallLine::Plain(PlainCall::Write(host))))
 }
 
@@ -74,7 +74,7 @@ pub fn write_line(line: &[u8]) -> Option<Line>
 pub fn next_line(line: &[u8]) -> Option<Line>
     ensures { result ≡ next_line line.now }
 {
-    let host = only_host(line)?;
+    let host = only_number(line, 0xFF)?;
     Some(Line::Asks(CallLine::Next(host)))
 }
 
@@ -118,21 +118,11 @@ pub fn sense_line(line: &[u8]) -> Option<Line>
     Some(Line::Asks(CallLine::Sense(host, len)))
 }
 
-// The length of a command that takes a length and no more.
-fn only_length(line: &[u8]) -> Option<u32>
-    ensures { result ≡ only_length line.now }
-{
-    if words::word_count(line) != 2 {
-        return None;
-    }
-    words::number_at(line, 1, 0x400)
-}
-
 #[tactic(auto, unfolding(crate::specs::Commands::log_line))]
 pub fn log_line(line: &[u8]) -> Option<Line>
     ensures { result ≡ log_line line.now }
 {
-    let len = only_length(line)?;
+    let len = only_number(line, 0x400)?;
     Some(Line::Asks(CallLine::Log(len)))
 }
 
@@ -140,7 +130,7 @@ pub fn log_line(line: &[u8]) -> Option<Line>
 pub fn transitions_line(line: &[u8]) -> Option<Line>
     ensures { result ≡ transitions_line line.now }
 {
-    let len = only_length(line)?;
+    let len = only_number(line, 0x400)?;
     Some(Line::Asks(CallLine::Transitions(len)))
 }
 

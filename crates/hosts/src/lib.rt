@@ -96,7 +96,7 @@ fn failure_in(line: &[u8]) -> Option<Failure>
     }
 }
 
-// The deferred sense that waits for a host.
+// What waits for a host: a failure's sense, or nothing.
 fn held_in(line: &[u8]) -> Option<Option<Failure>>
     ensures { result ≡ held_in line.now }
 {
@@ -115,7 +115,7 @@ pub fn held_line(line: &[u8]) -> Option<Line>
     Some(Line::Sets(Part::HasHeld(host, held_in(line)?)))
 }
 
-// The host whose command is out.
+// The host whose command is out, or none.
 fn out_in(line: &[u8]) -> Option<Option<u32>>
     ensures { result ≡ out_in line.now }
 {

@@ -1,6 +1,6 @@
 -- The format page's head: where the script comes from, and logcheck's page likewise; and which of the bytes that were read a turn of the program
 -- answers. Assumes nothing.
-use Rattle.std.specs.Prelude.{Bool, cond, ◌&&◌, ℕ, min, eqb, ltb, leb, ℤ, pos, negsuc}
+use Rattle.std.specs.Prelude.{Bool, cond, ◌&&◌, ℕ, min, eqb, ltb, leb, Option, Some, None}
 use Rattle.intake.specs.declared.Pace.{Pace}
 use Rattle.intake.specs.declared.Source.{Source}
 use Rattle.intake.specs.declared.Source.TheVariants.{Standard, File, Misused}
@@ -11,9 +11,9 @@ abbrev pub source_of : ℕ → Source
 source_of args = cond (ltb args 2) Standard (cond (eqb args 2) (File 1) Misused)
 
 -- "A file that opens and can't be read to its end counts up to where it could be read": a read that fails gives no bytes.
-abbrev pub clamped : ℤ → ℕ → ℕ
-clamped (pos n) most = min n most
-clamped (negsuc n) most = 0
+abbrev pub clamped : Option ℕ → ℕ → ℕ
+clamped (Some n) most = min n most
+clamped None most = 0
 
 abbrev pub is_answered : ℕ → ℕ → Bool
 is_answered from to = leb to from

@@ -24,13 +24,10 @@ pub struct Pace {
 pub fn source_by(args: usize) -> Source
     ensures { result ≡ source_of args }
 {
-    if args < 2 {
-        return Source::Standard;
-    }
-    if args == 2 {
-        Source::File(1)
-    } else {
-        Source::Misused
+    match args {
+        0 | 1 => Source::Standard,
+        2 => Source::File(1),
+        _ => Source::Misused,
     }
 }
 
@@ -41,19 +38,15 @@ pub fn is_answered(from: usize, to: usize) -> bool
     from >= to
 }
 
-// How many bytes a read gave that answered `got`: none if it failed, and no more than there is room for.
-fn taken(got: isize, most: usize) -> usize
+// How many bytes a read gave: none if it failed, and no more than there is room for.
+fn taken(got: Option<usize>, most: usize) -> usize
     ensures { result ≡ clamped got most }
 {
-    if got <= 0 {
-        return 0;
-    }
-    let n = got as usize;
-    if n < most { n } else { most }
+    got.unwrap_or(0).min(most)
 }
 
 // What the next turn answers: the bytes that are left or, if none are, those that the read gave, from the buffer's start on.
-pub fn pace_next(from: usize, to: usize, written: bool, got: isize, most: usize) -> Pace
+pub fn pace_next(from: usize, to: usize, written: bool, got: Option<usize>, most: usize) -> Pace
     ensures { result ≡ pace_next from to written (clamped got most) }
 {
     if is_answered(from, to) {

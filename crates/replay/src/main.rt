@@ -13,14 +13,12 @@ fn print(writer: &impl Print, out: &Sheet<16384>) -> bool {
     writer.write_all(out.written()).is_ok()
 }
 
-// Reads once, if that is asked. It answers as C's `read` does: how many bytes came, or -1.
-fn read_if(asked: bool, reader: &mut impl Read, input: &mut [u8; 65536]) -> isize {
-    if !asked {
-        return 0;
-    }
-    match reader.read(input) {
-        Ok(n) => n as isize,
-        Err(_) => -1,
+// Reads once, if that is asked: how many bytes came, or none where it failed.
+fn read_if(asked: bool, reader: &mut impl Read, input: &mut [u8; 65536]) -> Option<usize> {
+    if asked {
+        reader.read(input).ok()
+    } else {
+        Some(0)
     }
 }
 

@@ -1,5 +1,5 @@
--- What std says of a chain over a row, in the words of `Rows`: the answer of `all` and of `any`, and the array that `from_fn` makes.
-use mathlib.Core.Path.{◌≡◌, refl, sym, ◌∙◌}
+-- What std says of a chain over a row, in the words of `Rows`: the answer of `any`, and the array that `from_fn` makes.
+use mathlib.Core.Path.{◌≡◌, sym, ◌∙◌}
 use mathlib.Core.Bool.{Bool, true, false}
 use mathlib.Core.List.{List}
 use Prim.Native.Nat.{ℕ, zero, suc, ◌+◌, ◌<◌}
@@ -10,27 +10,14 @@ use denote.Param.Members.{Mut, Called}
 use Rattle.std.specs.Array.{IsFromFnResult, IsFromFnResultFrom}
 use Rattle.std.specs.Bool.{MatchBool}
 use Rattle.std.proofs.lemmas.List.{same_lists}
-use Rattle.rows.specs.Rows.{every_at, some_at, map_at}
-use Rattle.rows.proofs.Places.{every_from, every_at_lem, length-map_at, get_d_map_at}
+use Rattle.rows.specs.Rows.{some_at, map_at}
+use Rattle.rows.proofs.Places.{length-map_at, get_d_map_at}
 use Rattle.rows.proofs.Some.{some_from, none_from}
 
 module _ {A : Type 0} (f : ℕ → A → Bool) (l : List A) (z : A) where
-  -- Each place passes, or some one doesn't.
-  abbrev pub EveryAnswer : Bool → Type 0
-  EveryAnswer r = MatchBool r ((i : ℕ) → i < length l → f i (get_or l i z) ≡ true) ((i : ℕ) × (i < length l) × (f i (get_or l i z) ≡ false))
-
   -- Some place passes, or each doesn't.
   abbrev pub SomeAnswer : Bool → Type 0
   SomeAnswer r = MatchBool r ((i : ℕ) × (i < length l) × (f i (get_or l i z) ≡ true)) ((i : ℕ) → i < length l → f i (get_or l i z) ≡ false)
-
-  -- what `all` answers
-  pub every_answer : (r : Bool) → EveryAnswer r → r ≡ every_at f 0 l
-  every_answer true h = sym (every_from f l z h)
-  every_answer false h = by (every_at f 0 l) refl
-    where
-      by : (b : Bool) → every_at f 0 l ≡ b → false ≡ b
-      by true e = sym h.2 ∙ every_at_lem f l z e h.0 h.1
-      by false e = refl
 
   -- what `any` answers
   pub some_answer : (r : Bool) → SomeAnswer r → r ≡ some_at f 0 l

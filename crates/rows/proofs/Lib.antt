@@ -1,6 +1,7 @@
 pub mod Chains
 pub mod Choices
 pub mod Copied
+pub mod Folds
 pub mod Last
 pub mod Mapped
 pub mod Places

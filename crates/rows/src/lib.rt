@@ -5,6 +5,7 @@ ghost use Rattle.std.specs.Prelude.{cond, ◌+◌, ◌≤◌, ◌≡◌, length}
 ghost use Rattle.std.proofs.Math.Seq.{paste};
 
 // Writes `src` into `dst` from the place `at` on: the only function of the layer that writes behind a reference.
+// Stays beside the slice's own method: what its callers promise says `paste`, which their proofs join page by page.
 pub fn copy_in(src: &[u8], dst: &mut [u8], at: usize)
     requires { at + length src.now ≤ length dst.old }
     ensures { dst.new ≡ paste dst.old at src.now (length src.now) }

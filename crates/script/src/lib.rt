@@ -6,8 +6,8 @@ ghost use Rattle.script.specs.Lines.{call_entries, part_entries, lone_entries, r
 
 use asked::Line;
 
-// The names of calls are at places 0 to 14. Stays a match on the place: one on the name itself was tried, and left the proof of its last arm a case for
-// each length and byte at which the names part.
+// The names of calls are at places 0 to 14. Stays a match on the place: of one on the name's own bytes the proof of the last arm did not close, which
+// came apart into a goal for each length and byte at which the names part.
 fn call_at(line: &[u8], place: usize) -> Option<Line>
     ensures { result ≡ reader_at call_entries place line.now }
 {

@@ -14,6 +14,7 @@ use Rattle.drive.specs.declared.Edition.{Edition}
 use Rattle.drive.specs.declared.Edition.TheVariants.{Draft, Published}
 use Rattle.drive.specs.declared.Record.{Record}
 use Rattle.drive.specs.declared.Setting.{Setting}
+use Rattle.requests.specs.declared.Failure.{Failure}
 use Rattle.unit.specs.declared.Slot.{Slot}
 use Rattle.unit.specs.declared.Slot.TheVariants.{Empty, Waiting}
 use Rattle.requests.specs.declared.Failure.{Failure}

@@ -1,5 +1,5 @@
 -- The format page: how `show` spells a record. Assumes nothing.
-use Rattle.std.specs.Prelude.{true, false, Option, None, Some, List, [], ◌∷◌, ◌++◌, ℕ, get_or}
+use Rattle.std.specs.Prelude.{true, false, List, [], ◌∷◌, ◌++◌, ℕ, get_or, Some, None, Option}
 use Prim.Native.Char.{code}
 use Rattle.conditions.specs.declared.Cause.{Cause}
 use Rattle.conditions.specs.declared.Cause.TheVariants.{Timer, Command}

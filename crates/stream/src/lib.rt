@@ -97,7 +97,7 @@ fn finish(r: Run, line: &Sheet<4001>, out: &mut Sheet<16384>)
 pub fn go_on(
     t: Turn,
     written: bool,
-    got: isize,
+    got: Option<usize>,
     input: &[u8; 65536],
     line: &mut Sheet<4001>,
     out: &mut Sheet<16384>,

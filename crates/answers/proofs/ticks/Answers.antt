@@ -1,21 +1,18 @@
--- The ticks that are left complete the run at every turn.
-use mathlib.Core.Path.{◌≡◌, sym, ◌∙◌}
-use Prim.Native.Nat.{◌+◌, ◌-◌}
-use native.Mathlib.Omega.{arith}
-use Rattle.answers.proofs.Ticking.{tick_next, ticks_end, ticks_none}
+-- The ticks that are left complete the run at every turn; a refusal ends it.
+use Rattle.std.proofs.Common.{sym, ◌∙◌}
+use Rattle.answers.proofs.Ticking.{tick_made, all_made, ticks_end, not_refused}
 use Rattle.answers.proofs.ticks.Goals as goal
 
-pub loop-turn-preserved : goal.loop-turn-preserved
-loop-turn-preserved c =
-    let l = c.loop-turn in
-    let left = c.args.n - l._turn in
-    let one : c.args.n - (l._turn + 1) ≡ left - 1 = omega arith in
-    rw (one, c.tick-c.ensures) (sym (tick_next left l.c (omega arith) (sym c.is_done.ensures ∙ c.if-not-is_done.false)) ∙ l.invariant)
+pub loop-preserved : goal.loop-preserved
+loop-preserved c =
+    let made = tick_made c.args.n c.loop.counter c.loop.called c.tick-called.result c.loop-test.true c.loop.invariant.1 c.tick-called.ensures in
+    (sym made ∙ c.loop.invariant.0, not_refused _ (sym c.is_err.ensures.value ∙ c.if-is_err.false))
 
-pub returns-then-not-is_done : goal.returns-then-not-is_done
-returns-then-not-is_done c =
-    let l = c.loop-turn in
-    sym (ticks_end (c.args.n - l._turn) l.c (sym c.is_done.ensures ∙ c.if-not-is_done.true)) ∙ l.invariant
+pub returns-after-loop : goal.returns-after-loop
+returns-after-loop c = sym (all_made c.args.n c.loop.counter c.loop.called c.loop-test.false) ∙ c.loop.invariant.0
 
-pub returns : goal.returns
-returns c = let l = c.loop-turn in sym (ticks_none (c.args.n - l._turn) l.c (omega arith)) ∙ l.invariant
+pub returns-then-is_err : goal.returns-then-is_err
+returns-then-is_err c =
+    let t = c.tick-called.result in
+    let made = tick_made c.args.n c.loop.counter c.loop.called t c.loop-test.true c.loop.invariant.1 c.tick-called.ensures in
+    sym (ticks_end _ t (sym c.is_err.ensures.value ∙ c.if-is_err.true)) ∙ sym made ∙ c.loop.invariant.0

@@ -1,9 +1,8 @@
--- The ticks that are left complete the run at every turn.
-use mathlib.Core.Path.{◌≡◌}
-use Prim.Native.Nat.{◌-◌}
+-- The ticks that are left complete the run at every turn, and every tick so far was done.
+use Rattle.std.proofs.Common.{◌≡◌, ◌-◌, Ok}
 use Rattle.answers.specs.Answers
 use Rattle.answers.specs.Answers.{ticks_after}
 use Rattle.answers.proofs.ticks.Given as goal
 
-abbrev pub invariant-loop-turn : goal.invariant-loop-turn
-invariant-loop-turn l = ticks_after (l.n - l._turn) l.c ≡ Answers.ticks l.n l.fn.u
+abbrev pub invariant-loop : goal.invariant-loop
+invariant-loop l = (ticks_after (l.fn.n - l.counter) l.called ≡ Answers.ticks l.fn.n l.fn.u) × (l.called.answer ≡ Ok tt)

@@ -3,8 +3,6 @@ use mathlib.Core.Path.{◌≡◌, ◌∙◌, ap}
 use Prim.Native.Nat.{◌-◌, ◌≤◌}
 use native.Mathlib.Omega.{arith}
 use lib.ListN.{length, take}
-use mir.Syntax.{w64}
-use mir.ValLaws.{to_z-of_z}
 use Rattle.intake.specs.Intake.{clamped, pace_next}
 use Rattle.intake.proofs.Intake.{clamped_within, pace_within}
 use Rattle.stream.specs.Streams.{stream_of}
@@ -18,7 +16,7 @@ returns-then-pace c =
     let pace = c.pace_next-pace in
     let s = stream_of t.run c.args.line.now c.args.out.now in
     let n = clamped c.args.got 65536 in
-    let told : pace.result ≡ pace_next t.run.from t.to c.args.written n = rw (to_z-of_z w64 c.args.got c.ranges.got) at pace.ensures in
+    let told : pace.result ≡ pace_next t.run.from t.to c.args.written n = pace.ensures in
     let within : pace.result.to ≤ 65536 = rw told (pace_within t.run.from t.to c.args.written n 65536 c.requires (clamped_within c.args.got 65536)) in
     let inside : t.to ≤ length input = omega arith in
     let few : n ≤ length input = omega (arith, clamped_within c.args.got 65536) in (
@@ -34,7 +32,7 @@ returns c =
     let pace = c.pace_next-pace in
     let s = stream_of t.run c.args.line.now c.args.out.now in
     let n = clamped c.args.got 65536 in
-    let told : pace.result ≡ pace_next t.run.from t.to c.args.written n = rw (to_z-of_z w64 c.args.got c.ranges.got) at pace.ensures in
+    let told : pace.result ≡ pace_next t.run.from t.to c.args.written n = pace.ensures in
     let out = c.finish.new.out in
     let last = ap (λ k. take k out.bytes) c.to_write-out.ensures ∙ cut c.args.written out.len out.bytes c.finish.ensures.0 in
     let none : 0 - pace.result.from ≡ 0 = omega arith in (
