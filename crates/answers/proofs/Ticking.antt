@@ -1,10 +1,9 @@
 -- Ticks one after another: while one is left and the last was done, the next is made; with none left, or after a refusal, they end.
 use Prim.Native.Nat.{zero}
-use Rattle.std.proofs.Common.{◌≡◌, ℕ, suc, ◌+◌, ◌-◌, ◌<◌, ◌≤◌, Bool, true, false, refl, ap, ◌∙◌, arith, Ok, Err}
+use Rattle.std.proofs.Common.{◌≡◌, ℕ, suc, ◌+◌, ◌-◌, ◌<◌, ◌≤◌, true, false, refl, arith, Ok, Err}
 use Rattle.std.specs.Result.{is_err}
 use Rattle.engine.specs.Engine.{tick_outcome}
 use Rattle.refusals.specs.Refusals.{Verdict}
-use Rattle.unit.specs.declared.Unit.{Unit}
 use Rattle.outcomes.specs.declared.Called.{Called}
 use Rattle.answers.specs.Answers.{ticks_after}
 

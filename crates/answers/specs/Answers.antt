@@ -1,6 +1,6 @@
 -- The format page, "Calls": what each call leaves of the unit, and the pieces of the line that it prints. Assumes nothing.
 use Rattle.std.specs.Result.{is_ok}
-use Rattle.std.specs.Prelude.{Bool, true, false, cond, List, [], ◌∷◌, map, ℕ, zero, suc, replicate, Ok, Err}
+use Rattle.std.specs.Prelude.{cond, List, [], ◌∷◌, map, ℕ, zero, suc, replicate, Ok}
 use Rattle.drive.specs.Drives.{maker_of}
 use Rattle.readouts.specs.Readouts.{Filled, sense_outcome, log_outcome, new_page_outcome, transitions_outcome}
 use Rattle.engine.specs.Engine.{manufacture_outcome, epc_outcome, tick_outcome, read_outcome, write_outcome, power_on_outcome, reset_outcome}

@@ -12,7 +12,6 @@ use Rattle.digits.specs.Sheets.{line_text}
 use Rattle.pairs.specs.Pairs.{page_of}
 use Rattle.spelling.specs.Spelling.{record_words}
 use Rattle.phrases.specs.Phrases.{refused_text}
-use Rattle.refusals.specs.Refusals.{Verdict}
 use Rattle.refusals.specs.declared.Refusal.{Refusal}
 use Rattle.drive.specs.declared.Record.{Record}
 
