@@ -20,14 +20,13 @@ pub enum Block {
     MakeBlock,
 }
 
-// A run of a script: its unit and, while a block is open, whether all its lines were good, and the record that they plan: what a `unit` block sets
-// up, or what manufacture makes of a `make` block.
+// A run of a script: its unit and, while a block is open, the record that its lines plan: what a `unit` block sets up, or what manufacture makes of a
+// `make` block. None is planned once a line of the block was bad.
 #[derive(Clone, Copy)]
 pub struct Session {
     pub unit: Unit,
     pub block: Option<Block>,
-    pub good: bool,
-    pub planned: Unit,
+    pub planned: Option<Unit>,
 }
 
 // No call changes a unit's edition; a block sets the record up anew.
@@ -87,8 +86,7 @@ pub fn start() -> Session
     Session {
         unit: zero,
         block: None,
-        good: true,
-        planned: zero,
+        planned: Some(zero),
     }
 }
 
@@ -111,8 +109,7 @@ pub fn open_block(s: Session) -> Session
     Session {
         unit: s.unit,
         block: Some(Block::UnitBlock),
-        good: true,
-        planned: unit::blank_unit(Edition::Draft),
+        planned: Some(unit::blank_unit(Edition::Draft)),
     }
 }
 
@@ -122,15 +119,14 @@ pub fn open_make(s: Session, edition: Edition) -> Session
     Session {
         unit: s.unit,
         block: Some(Block::MakeBlock),
-        good: true,
-        planned: unit::blank_unit(edition),
+        planned: Some(unit::blank_unit(edition)),
     }
 }
 
 fn spoilt(s: Session) -> Session
     ensures { result ≡ Sessions.spoilt s }
 {
-    Session { good: false, ..s }
+    Session { planned: None, ..s }
 }
 
 fn takes_parts(block: Option<Block>) -> bool
@@ -150,7 +146,7 @@ fn with_part(s: Session, p: Part) -> Session
 {
     if takes_parts(s.block) {
         return Session {
-            planned: set_part(s.planned, p),
+            planned: s.planned.map(|u| set_part(u, p)),
             ..s
         };
     }
@@ -162,7 +158,7 @@ fn with_told(s: Session, c: Condition, made: Record) -> Session
 {
     if takes_told(s.block) {
         return Session {
-            planned: set_record(s.planned, c, made),
+            planned: s.planned.map(|u| set_record(u, c, made)),
             ..s
         };
     }
@@ -196,8 +192,5 @@ pub fn close_with(s: Session, u: Unit) -> Session
 pub fn close_block(s: Session) -> Session
     ensures { result ≡ closed s }
 {
-    if s.good {
-        return close_with(s, s.planned);
-    }
-    close_with(s, s.unit)
+    close_with(s, s.planned.unwrap_or(s.unit))
 }

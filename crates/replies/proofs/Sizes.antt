@@ -1,6 +1,6 @@
 -- No answer has more than 4,096 bytes. A line is cut at 128 of them: `show` has 19 lines and the table 24. The bytes that `sense`, `log`, `trans`
 -- and `page` print are at most 1,024, with two digits each, between two texts that are cut too. `faults` prints at most 64 entries, of at most 18.
-use Rattle.std.proofs.Common.{Ok, Err, Some, None, Option, Result}
+use Rattle.std.proofs.Common.{is_some, Ok, Err, Some, None, Option, Result}
 use mathlib.Core.Path.{◌≡◌, refl}
 use mathlib.Core.Bool.{Bool, true, false, cond, not}
 use mathlib.Core.List.{List, [], ◌∷◌, ◌++◌, map}
@@ -57,7 +57,7 @@ use Rattle.reader.specs.PageCalls.{faults_outcome, record_outcome}
 use Rattle.pairs.specs.Pairs.{page_of}
 use Rattle.findings.specs.Findings.{entry_text, entries_of, listed_pieces, checked_pieces, faults_pieces, found_text, record_pieces}
 use Rattle.findings.proofs.Entries.{total_within, entry_within}
-use Rattle.replies.specs.Lines.{is_end, silent, ok_or_error, says_ok, make_replied, ended_block, in_block, outside, response}
+use Rattle.replies.specs.Lines.{is_end, silent, ok_or_error, says_ok, made_of, ended_block, in_block, outside, response}
 use Rattle.answers.specs.Answers.{called_response, plain_outcome, unfilled, filled_pieces, filled_response, call_response, planned_outcome, made_response}
 use Rattle.refusals.specs.Refusals.{Verdict}
 use Rattle.requests.specs.declared.Failure.{Failure}
@@ -222,15 +222,14 @@ outside_fits s (Some Shows) text = shown_fits s.unit
 outside_fits s (Some Tables) text = table_fits s.unit
 outside_fits s None text = ok_fits false
 
-make_fits : (s : Session) (good : Bool)
-    → Fits (cond good (make_replied s (made_response s.unit s.planned)) (says_ok false (closed_with s.unit s))).pieces
-make_fits s true = line_fits (called_text (planned_outcome s.planned).answer)
-make_fits s false = ok_fits false
+make_fits : (s : Session) (planned : Option Unit) → Fits (made_of s planned).pieces
+make_fits s (Some planned) = line_fits (called_text (planned_outcome planned).answer)
+make_fits s None = ok_fits false
 
 end_fits : (s : Session) (b : Option Block) → Fits (ended_block b s).pieces
 end_fits s None = ok_fits false
-end_fits s (Some UnitBlock) = ok_fits s.good
-end_fits s (Some MakeBlock) = make_fits s s.good
+end_fits s (Some UnitBlock) = ok_fits (is_some s.planned)
+end_fits s (Some MakeBlock) = make_fits s s.planned
 
 block_fits : (s : Session) (line : Option Line) → Fits (in_block s line).pieces
 block_fits s line = on (is_end line)

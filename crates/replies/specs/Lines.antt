@@ -1,5 +1,5 @@
 -- The format page: what each line of a script leaves of the session, and what it prints. Assumes nothing.
-use Rattle.std.specs.Prelude.{Bool, true, false, cond, Option, Some, None, List, [], ◌∷◌, ℕ}
+use Rattle.std.specs.Prelude.{Bool, true, false, cond, Option, Some, None, is_some, List, [], ◌∷◌, ℕ}
 use Rattle.words.specs.Codes.{codes}
 use Rattle.digits.specs.Sheets.{line_text}
 use Rattle.asked.specs.declared.Line.{Line}
@@ -10,6 +10,7 @@ use Rattle.spelling.specs.Spelling.{shown}
 use Rattle.blocks.specs.declared.Block.{Block}
 use Rattle.blocks.specs.declared.Block.TheVariants.{UnitBlock, MakeBlock}
 use Rattle.blocks.specs.declared.Session.{Session}
+use Rattle.unit.specs.declared.Unit.{Unit}
 use Rattle.table.specs.Table.{table_lines}
 use Rattle.answers.specs.Answers.{CallResponse, call_response, made_response}
 
@@ -41,14 +42,18 @@ is_end None = false
 
 -- "prints one `ok`, at `end`"; a bad line in the block: "`error`, printed once, at `end`".
 abbrev pub ended_unit : Session → Response
-ended_unit s = says_ok s.good (closed s)
+ended_unit s = says_ok (is_some s.planned) (closed s)
 
 -- "manufacture; prints `ok`, or `refused 3 -` and the record stays as it was; bad lines as in a `unit` block".
 abbrev pub make_replied : Session → CallResponse → Response
 make_replied s r = record { session = closed_with r.unit s; pieces = r.pieces }
 
+abbrev pub made_of : Session → Option Unit → Response
+made_of s (Some planned) = make_replied s (made_response s.unit planned)
+made_of s None = says_ok false (closed_with s.unit s)
+
 abbrev pub ended_make : Session → Response
-ended_make s = cond s.good (make_replied s (made_response s.unit s.planned)) (says_ok false (closed_with s.unit s))
+ended_make s = made_of s s.planned
 
 abbrev pub ended_block : Option Block → Session → Response
 ended_block None s = says_ok false s

@@ -36,7 +36,7 @@ fn wrong<const N: usize>(s: Session, out: &mut Sheet<N>) -> Session
 fn end_unit<const N: usize>(s: Session, out: &mut Sheet<N>) -> Session
     ensures { (result ≡ (ended_unit s).session) × (out.new ≡ wrote_all out.old (ended_unit s).pieces) }
 {
-    put_ok(s.good, out);
+    put_ok(s.planned.is_some(), out);
     blocks::close_block(s)
 }
 
@@ -44,11 +44,10 @@ fn end_unit<const N: usize>(s: Session, out: &mut Sheet<N>) -> Session
 fn end_make<const N: usize>(s: Session, out: &mut Sheet<N>) -> Session
     ensures { (result ≡ (ended_make s).session) × (out.new ≡ wrote_all out.old (ended_make s).pieces) }
 {
-    if s.good {
-        let made = answers::manufacture(s.unit, s.planned, out);
-        return blocks::close_with(s, made);
+    match s.planned {
+        Some(planned) => blocks::close_with(s, answers::manufacture(s.unit, planned, out)),
+        None => wrong(blocks::close_with(s, s.unit), out),
     }
-    wrong(blocks::close_with(s, s.unit), out)
 }
 
 fn end_block<const N: usize>(s: Session, out: &mut Sheet<N>) -> Session
