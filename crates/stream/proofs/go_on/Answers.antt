@@ -3,8 +3,6 @@ use mathlib.Core.Path.{◌≡◌, ◌∙◌, ap}
 use Prim.Native.Nat.{◌-◌, ◌≤◌}
 use native.Mathlib.Omega.{arith}
 use lib.ListN.{length, take}
-use mir.Syntax.{w64}
-use mir.ValLaws.{to_z-of_z}
 use Rattle.intake.specs.Intake.{clamped, pace_next}
 use Rattle.intake.proofs.Intake.{clamped_within, pace_within}
 use Rattle.stream.specs.Streams.{stream_of}
