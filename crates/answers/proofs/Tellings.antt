@@ -2,13 +2,13 @@
 use mathlib.Core.Path.{◌≡◌}
 use mathlib.Core.List.{List, [], ◌∷◌}
 use Prim.Native.Nat.{ℕ}
-use Rattle.digits.specs.declared.Sheet.{Sheet}
+use Rattle.digits.specs.Sheets.{Written}
 use Rattle.digits.specs.Sheets.{wrote, wrote_all, line_text}
 use Rattle.digits.specs.Texts.{cut}
 use Rattle.digits.proofs.Sheets.{line_once}
 use Rattle.unit.specs.declared.Unit.{Unit}
 
-pub line_told : {N : ℕ} {after told printed : Unit} {said : List ℕ} {end : Sheet N} (text : List ℕ) (before : Sheet N)
+pub line_told : {after told printed : Unit} {said : List ℕ} {end : Written} (text : List ℕ) (before : Written)
     → (told ≡ after) × (said ≡ cut text)
     → (printed ≡ told) × (end ≡ wrote before (line_text said))
     → (printed ≡ after) × (end ≡ wrote_all before (line_text text ∷ []))

@@ -7,7 +7,7 @@ ghost use Rattle.readouts.specs.Readouts.{sense_outcome};
 ghost use Rattle.bridge.specs.Bridge.{start_stop_outcome};
 ghost use Rattle.exchange.specs.Exchange.{next_outcome, answer_outcome};
 ghost use Rattle.words.specs.Lines.{line_in};
-ghost use Rattle.digits.specs.Sheets.{wrote, wrote_all, line_text};
+ghost use Rattle.digits.specs.Sheets.{written, wrote, wrote_all, line_text};
 ghost use Rattle.digits.specs.Texts.{said, cut};
 ghost use Rattle.commands.specs.Commands.{cdb_in};
 ghost use Rattle.findings.specs.Findings.{faults_pieces, record_pieces};
@@ -121,8 +121,8 @@ fn answer(u: Unit, host: u32, reply: Reply) -> Told
 }
 
 // Writes what is said as a line, and answers the unit.
-fn put_told<const N: usize>(t: Told, out: &mut Sheet<N>) -> Unit
-    ensures { (result ≡ t.unit) × (out.new ≡ wrote out.old (line_text (said t.text))) }
+fn put_told(t: Told, out: &mut Sheet<'_>) -> Unit
+    ensures { (result ≡ t.unit) × (written out.new ≡ wrote (written out.old) (line_text (said t.text))) }
 {
     out.put_line(t.text);
     t.unit
@@ -130,8 +130,8 @@ fn put_told<const N: usize>(t: Told, out: &mut Sheet<N>) -> Unit
 
 // An answer, the buffer as the call left it, and the line's end.
 #[tactic(auto, unfolding(digits::specs::Sheets::wrote_all))]
-fn put_filled<const N: usize>(a: Result<(), Refusal>, buffer: &[u8], out: &mut Sheet<N>)
-    ensures { out.new ≡ wrote_all out.old (filled_pieces a buffer.now) }
+fn put_filled(a: Result<(), Refusal>, buffer: &[u8], out: &mut Sheet<'_>)
+    ensures { written out.new ≡ wrote_all (written out.old) (filled_pieces a buffer.now) }
 {
     out.put_text(phrases::before_bytes(a));
     out.put_bytes(buffer);
@@ -145,8 +145,8 @@ fn unwritten() -> [u8; 1024]
     [0xA5u8; 1024]
 }
 
-fn sense<const N: usize>(u: Unit, host: u32, len: u32, out: &mut Sheet<N>) -> Unit
-    ensures { (result ≡ (filled_response (sense_outcome u host (unfilled len))).unit) × (out.new ≡ wrote_all out.old (filled_response (sense_outcome u host (unfilled len))).pieces) }
+fn sense(u: Unit, host: u32, len: u32, out: &mut Sheet<'_>) -> Unit
+    ensures { (result ≡ (filled_response (sense_outcome u host (unfilled len))).unit) × (written out.new ≡ wrote_all (written out.old) (filled_response (sense_outcome u host (unfilled len))).pieces) }
 {
     let mut buffer = unwritten();
     let n = asked::buffer_len(len);
@@ -166,8 +166,8 @@ fn read_page(u: Unit, page: Page, buffer: &mut [u8]) -> Result<(), Refusal>
 }
 
 // Reading a page changes no record.
-fn log<const N: usize>(u: Unit, page: Page, len: u32, out: &mut Sheet<N>) -> Unit
-    ensures { (result ≡ (filled_response (page_outcome page u (unfilled len))).unit) × (out.new ≡ wrote_all out.old (filled_response (page_outcome page u (unfilled len))).pieces) }
+fn log(u: Unit, page: Page, len: u32, out: &mut Sheet<'_>) -> Unit
+    ensures { (result ≡ (filled_response (page_outcome page u (unfilled len))).unit) × (written out.new ≡ wrote_all (written out.old) (filled_response (page_outcome page u (unfilled len))).pieces) }
 {
     let mut buffer = unwritten();
     let n = asked::buffer_len(len);
@@ -177,29 +177,29 @@ fn log<const N: usize>(u: Unit, page: Page, len: u32, out: &mut Sheet<N>) -> Uni
 }
 
 // Another maker's page is no part of the record.
-fn page_faults<const N: usize>(u: Unit, len: u32, text: &[u8], out: &mut Sheet<N>) -> Unit
-    ensures { (result ≡ u) × (out.new ≡ wrote_all out.old (faults_pieces len text.now)) }
+fn page_faults(u: Unit, len: u32, text: &[u8], out: &mut Sheet<'_>) -> Unit
+    ensures { (result ≡ u) × (written out.new ≡ wrote_all (written out.old) (faults_pieces len text.now)) }
 {
     findings::put_faults(len, text, out);
     u
 }
 
-fn page_record<const N: usize>(
+fn page_record(
     u: Unit,
     c: Condition,
     len: u32,
     text: &[u8],
-    out: &mut Sheet<N>,
+    out: &mut Sheet<'_>,
 ) -> Unit
-    ensures { (result ≡ u) × (out.new ≡ wrote_all out.old (record_pieces c len text.now)) }
+    ensures { (result ≡ u) × (written out.new ≡ wrote_all (written out.old) (record_pieces c len text.now)) }
 {
     findings::put_record(c, len, text, out);
     u
 }
 
 // Makes a call, writes its line and answers the unit after it; `text` has the bytes of START STOP UNIT, and the pairs of another maker's page.
-pub fn make<const N: usize>(u: Unit, call: CallLine, text: &[u8], out: &mut Sheet<N>) -> Unit
-    ensures { (result ≡ (call_response u call text.now).unit) × (out.new ≡ wrote_all out.old (call_response u call text.now).pieces) }
+pub fn make(u: Unit, call: CallLine, text: &[u8], out: &mut Sheet<'_>) -> Unit
+    ensures { (result ≡ (call_response u call text.now).unit) × (written out.new ≡ wrote_all (written out.old) (call_response u call text.now).pieces) }
 {
     match call {
         CallLine::Plain(call) => put_told(plain(u, call), out),
@@ -269,8 +269,8 @@ fn made_by(u: Unit, planned: Unit) -> Told
 }
 
 // Manufactures the planned unit in the place of `u`, writes the line of that and answers the unit after it.
-pub fn manufacture<const N: usize>(u: Unit, planned: Unit, out: &mut Sheet<N>) -> Unit
-    ensures { (result ≡ (made_response u planned).unit) × (out.new ≡ wrote_all out.old (made_response u planned).pieces) }
+pub fn manufacture(u: Unit, planned: Unit, out: &mut Sheet<'_>) -> Unit
+    ensures { (result ≡ (made_response u planned).unit) × (written out.new ≡ wrote_all (written out.old) (made_response u planned).pieces) }
 {
     put_told(made_by(u, planned), out)
 }

@@ -4,11 +4,20 @@ use Prim.Native.Char.{code}
 use Rattle.digits.specs.Texts.{cut, written_at, after}
 use Rattle.digits.specs.declared.Sheet.{Sheet}
 
--- A piece is written whole or, where there is no room, not at all.
-abbrev pub wrote : {N : ℕ} → Sheet N → List ℕ → Sheet N
-wrote s bs = record { bytes = written_at s.bytes s.len bs; len = after s.bytes s.len bs }
+-- What stands in the buffer that was lent, how far it is written, and which buffer that is.
+pub record Written : Type 0 where
+  pub bytes : List ℕ
+  pub len : ℕ
+  pub lent : ℕ
 
-unfoldable pub wrote_all : {N : ℕ} → Sheet N → List (List ℕ) → Sheet N
+abbrev pub written : Sheet → Written
+written s = record { bytes = s.bytes.now; len = s.len; lent = s.bytes.ghost_name }
+
+-- A piece is written whole or, where there is no room, not at all.
+abbrev pub wrote : Written → List ℕ → Written
+wrote s bs = record { bytes = written_at s.bytes s.len bs; len = after s.bytes s.len bs; lent = s.lent }
+
+unfoldable pub wrote_all : Written → List (List ℕ) → Written
 wrote_all s [] = s
 wrote_all s (bs ∷ more) = wrote_all (wrote s bs) more
 

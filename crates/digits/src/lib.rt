@@ -5,7 +5,7 @@ ghost use Rattle.std.specs.Prelude.{cond, [], ◌∷◌, ◌++◌, ◌≡◌, �
 ghost use Rattle.digits.specs.Numerals;
 ghost use Rattle.digits.specs.Numerals.{hex_text, decimal_text, tenths_text, bytes_text, pairs, blanks, right_in, padded};
 ghost use Rattle.digits.specs.Pieces.{flag_word, number_word, sense_text};
-ghost use Rattle.digits.specs.Sheets.{wrote, line_text};
+ghost use Rattle.digits.specs.Sheets.{written, wrote, line_text};
 ghost use Rattle.digits.specs.Texts.{said, cut};
 
 // ---- a line
@@ -180,59 +180,51 @@ impl Text {
 
 // What lines are written on, one behind the other, and how far it is written.
 #[derive(Drop)]
-pub struct Sheet<const N: usize> {
-    pub bytes: [u8; N],
+pub struct Sheet<'a> {
+    pub bytes: &'a mut [u8],
     pub len: usize,
 }
 
-impl<const N: usize> Sheet<N> {
-    pub fn new() -> Self
-        ensures { result.len ≡ 0 }
+impl<'a> Sheet<'a> {
+    // A sheet on a buffer that is written up to `len`.
+    pub fn on(bytes: &'a mut [u8], len: usize) -> Sheet<'a>
+        ensures { written result ≡ record { bytes = bytes.old; len = len; lent = bytes.entry.ghost_name } }
     {
-        Sheet {
-            bytes: [0u8; N],
-            len: 0,
-        }
-    }
-
-    pub fn written(&self) -> &[u8]
-        ensures { result.now ≡ take self.now.len self.now.bytes }
-    {
-        &self.bytes[..self.len.min(N)]
+        Sheet { bytes, len }
     }
 
     // Whether n more bytes have room; the sum is not taken, since `len` may be any number.
     fn has_room(&self, n: usize) -> bool
-        ensures { result ≡ leb (self.now.len + n) (length self.now.bytes) }
+        ensures { result ≡ leb (self.now.len + n) (length self.now.bytes.now) }
     {
-        self.len <= N && n <= N - self.len
+        self.len <= self.bytes.len() && n <= self.bytes.len() - self.len
     }
 
     // Writes bytes as they are, if there is room.
     pub fn put(&mut self, bytes: &[u8])
-        ensures { self.new ≡ wrote self.old bytes.now }
+        ensures { written self.new ≡ wrote (written self.old) bytes.now }
     {
         if self.has_room(bytes.len()) {
-            rows::copy_in(bytes, &mut self.bytes, self.len);
+            rows::copy_in(bytes, self.bytes, self.len);
             self.len += bytes.len();
         }
     }
 
     pub fn put_text(&mut self, text: Text)
-        ensures { self.new ≡ wrote self.old (said text) }
+        ensures { written self.new ≡ wrote (written self.old) (said text) }
     {
         self.put(text.as_bytes());
     }
 
     pub fn put_line(&mut self, text: Text)
-        ensures { self.new ≡ wrote self.old (line_text (said text)) }
+        ensures { written self.new ≡ wrote (written self.old) (line_text (said text)) }
     {
         self.put_text(text.put(b'\n'));
     }
 
     // Writes bytes as a byte string, two digits for each, if there is room.
     pub fn put_bytes(&mut self, bytes: &[u8])
-        ensures { self.new ≡ wrote self.old (bytes_text bytes.now) }
+        ensures { written self.new ≡ wrote (written self.old) (bytes_text bytes.now) }
     {
         if bytes.is_empty() {
             return self.put(b"-");

@@ -2,7 +2,7 @@
 #![tactic(auto, using(digits::proofs::Digits::one_by_one))]
 
 ghost use Rattle.std.specs.Prelude.{map, ◌≡◌};
-ghost use Rattle.digits.specs.Sheets.{wrote_all};
+ghost use Rattle.digits.specs.Sheets.{written, wrote_all};
 ghost use Rattle.digits.specs.Texts.{said, cut};
 ghost use Rattle.findings.specs.Findings.{ok_total, entry_text, entries_of, listed_pieces, checked_pieces, faults_pieces, found_text, record_pieces};
 
@@ -28,8 +28,8 @@ fn entry(f: Fault) -> Text
 }
 
 #[tactic(auto, unfolding(digits::specs::Sheets::wrote_all))]
-fn put_entries<const N: usize>(f: Faults, out: &mut Sheet<N>)
-    ensures { out.new ≡ wrote_all out.old (map entry_text (entries_of f)) }
+fn put_entries(f: Faults, out: &mut Sheet<'_>)
+    ensures { written out.new ≡ wrote_all (written out.old) (map entry_text (entries_of f)) }
 {
     let listed = &f.listed[..power::listed_count(f.total)];
     for fault in listed {
@@ -38,8 +38,8 @@ fn put_entries<const N: usize>(f: Faults, out: &mut Sheet<N>)
 }
 
 #[tactic(auto, using(digits::proofs::Sheets::wrote_then), unfolding(digits::specs::Sheets::wrote_all))]
-fn put_listed<const N: usize>(f: Faults, out: &mut Sheet<N>)
-    ensures { out.new ≡ wrote_all out.old (listed_pieces f) }
+fn put_listed(f: Faults, out: &mut Sheet<'_>)
+    ensures { written out.new ≡ wrote_all (written out.old) (listed_pieces f) }
 {
     out.put_text(total(f.total));
     put_entries(f, out);
@@ -47,8 +47,8 @@ fn put_listed<const N: usize>(f: Faults, out: &mut Sheet<N>)
 }
 
 #[tactic(auto, using(digits::proofs::Sheets::line_once), unfolding(digits::specs::Sheets::wrote_all))]
-fn put_checked<const N: usize>(checked: Result<Faults, Refusal>, out: &mut Sheet<N>)
-    ensures { out.new ≡ wrote_all out.old (checked_pieces checked) }
+fn put_checked(checked: Result<Faults, Refusal>, out: &mut Sheet<'_>)
+    ensures { written out.new ≡ wrote_all (written out.old) (checked_pieces checked) }
 {
     match checked {
         Ok(f) => put_listed(f, out),
@@ -58,8 +58,8 @@ fn put_checked<const N: usize>(checked: Result<Faults, Refusal>, out: &mut Sheet
 
 // Has the page of a line checked and writes what is wrong with it.
 #[tactic(auto, unfolding(crate::specs::Findings::faults_pieces))]
-pub fn put_faults<const N: usize>(len: u32, text: &[u8], out: &mut Sheet<N>)
-    ensures { out.new ≡ wrote_all out.old (faults_pieces len text.now) }
+pub fn put_faults(len: u32, text: &[u8], out: &mut Sheet<'_>)
+    ensures { written out.new ≡ wrote_all (written out.old) (faults_pieces len text.now) }
 {
     let page = pairs::page_of(text, 2, len);
     let bytes = page.bytes;
@@ -80,8 +80,8 @@ fn found(r: Result<Record, Refusal>) -> Text
 
 // Has a condition's record read from the page of a line and writes it.
 #[tactic(auto, using(digits::proofs::Sheets::line_once), unfolding(digits::specs::Sheets::wrote_all, crate::specs::Findings::record_pieces))]
-pub fn put_record<const N: usize>(c: Condition, len: u32, text: &[u8], out: &mut Sheet<N>)
-    ensures { out.new ≡ wrote_all out.old (record_pieces c len text.now) }
+pub fn put_record(c: Condition, len: u32, text: &[u8], out: &mut Sheet<'_>)
+    ensures { written out.new ≡ wrote_all (written out.old) (record_pieces c len text.now) }
 {
     let page = pairs::page_of(text, 3, len);
     let bytes = page.bytes;

@@ -3,7 +3,6 @@
 
 ghost use Rattle.std.specs.Prelude.{◌≤◌, length};
 
-use digits::Sheet;
 use intake::Source;
 use std::env::FillError;
 use std::io::{Print, Read};
@@ -32,9 +31,9 @@ fn check(reader: &mut impl Read, writer: &impl Print) -> io::Result<()> {
     let n = read_full(reader, &mut page);
     let mut rest = [0u8; 1];
     reader.read(&mut rest)?;
-    let mut out = Sheet::new();
-    report::put_report(&page[..n], &mut out);
-    let _ = writer.write_all(out.written());
+    let mut out = [0u8; 9216];
+    let len = report::put_report(&page[..n], &mut out);
+    let _ = writer.write_all(&out[..len]);
     Ok(())
 }
 

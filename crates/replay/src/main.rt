@@ -1,16 +1,20 @@
 // Reads a script of calls and writes what each answered: docs/replay.md. What is read, and what is answered when, `intake` and `stream` decide.
 #![tactic(auto)]
 
-use digits::Sheet;
+ghost use Rattle.std.specs.Prelude.{◌≤◌, length};
+
 use intake::Source;
 use std::env::FillError;
 use std::fs;
 use std::io::{Print, Read};
 use std::rt::{Env, Files};
 
-// Writes out what was printed; false if that cannot be done.
-fn print(writer: &impl Print, out: &Sheet<16384>) -> bool {
-    writer.write_all(out.written()).is_ok()
+// Writes out the first n bytes; false if that cannot be done.
+fn print(writer: &impl Print, out: &[u8; 16384], n: usize) -> bool
+    requires { n ≤ length out.now }
+{
+    let all: &[u8] = out;
+    writer.write_all(&all[..n]).is_ok()
 }
 
 // Reads once, if that is asked: how many bytes came, or none where it failed.
@@ -26,19 +30,19 @@ fn read_if(asked: bool, reader: &mut impl Read, input: &mut [u8; 65536]) -> Opti
 // up to a number that no run reaches.
 fn replay(reader: &mut impl Read, writer: &impl Print) {
     let mut input = [0u8; 65536];
-    let mut line = Sheet::new();
-    let mut out = Sheet::new();
+    let mut line = [0u8; 4001];
+    let mut out = [0u8; 16384];
     let mut turn = stream::start();
     for _ in 0..u64::MAX {
         if !turn.goes {
             break;
         }
-        let written = print(writer, &out);
+        let written = print(writer, &out, turn.run.at);
         let asked = written & intake::is_answered(turn.run.from, turn.to);
         let got = read_if(asked, reader, &mut input);
         turn = stream::go_on(turn, written, got, &input, &mut line, &mut out);
     }
-    print(writer, &out);
+    print(writer, &out, turn.run.at);
 }
 
 // How many arguments there are, the program's own name among them.

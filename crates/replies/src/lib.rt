@@ -2,7 +2,7 @@
 #![tactic(auto)]
 
 ghost use Rattle.std.specs.Prelude.{◌≡◌, false, Some};
-ghost use Rattle.digits.specs.Sheets.{wrote_all};
+ghost use Rattle.digits.specs.Sheets.{written, wrote_all};
 ghost use Rattle.asked.specs.declared.Line.TheVariants.{Asks};
 ghost use Rattle.spelling.specs.Spelling.{shown};
 ghost use Rattle.table.specs.Table.{table_lines};
@@ -14,8 +14,8 @@ use blocks::{Block, Session};
 use digits::{Sheet, Text};
 
 #[tactic(auto, using(digits::proofs::Sheets::line_once), unfolding(digits::specs::Sheets::wrote_all))]
-pub fn put_ok<const N: usize>(good: bool, out: &mut Sheet<N>)
-    ensures { out.new ≡ wrote_all out.old (ok_or_error good) }
+pub fn put_ok(good: bool, out: &mut Sheet<'_>)
+    ensures { written out.new ≡ wrote_all (written out.old) (ok_or_error good) }
 {
     out.put_line(Text::empty().put_either(good, b"ok", b"error"));
 }
@@ -26,23 +26,23 @@ fn is_end(line: Option<Line>) -> bool
     matches!(line, Some(Line::Closes))
 }
 
-fn wrong<const N: usize>(s: Session, out: &mut Sheet<N>) -> Session
-    ensures { (result ≡ s) × (out.new ≡ wrote_all out.old (ok_or_error false)) }
+fn wrong(s: Session, out: &mut Sheet<'_>) -> Session
+    ensures { (result ≡ s) × (written out.new ≡ wrote_all (written out.old) (ok_or_error false)) }
 {
     put_ok(false, out);
     s
 }
 
-fn end_unit<const N: usize>(s: Session, out: &mut Sheet<N>) -> Session
-    ensures { (result ≡ (ended_unit s).session) × (out.new ≡ wrote_all out.old (ended_unit s).pieces) }
+fn end_unit(s: Session, out: &mut Sheet<'_>) -> Session
+    ensures { (result ≡ (ended_unit s).session) × (written out.new ≡ wrote_all (written out.old) (ended_unit s).pieces) }
 {
     put_ok(s.planned.is_some(), out);
     blocks::close_block(s)
 }
 
 // Manufactures, unless a line of the block was bad.
-fn end_make<const N: usize>(s: Session, out: &mut Sheet<N>) -> Session
-    ensures { (result ≡ (ended_make s).session) × (out.new ≡ wrote_all out.old (ended_make s).pieces) }
+fn end_make(s: Session, out: &mut Sheet<'_>) -> Session
+    ensures { (result ≡ (ended_make s).session) × (written out.new ≡ wrote_all (written out.old) (ended_make s).pieces) }
 {
     match s.planned {
         Some(planned) => blocks::close_with(s, answers::manufacture(s.unit, planned, out)),
@@ -50,8 +50,8 @@ fn end_make<const N: usize>(s: Session, out: &mut Sheet<N>) -> Session
     }
 }
 
-fn end_block<const N: usize>(s: Session, out: &mut Sheet<N>) -> Session
-    ensures { (result ≡ (ended_block s.block s).session) × (out.new ≡ wrote_all out.old (ended_block s.block s).pieces) }
+fn end_block(s: Session, out: &mut Sheet<'_>) -> Session
+    ensures { (result ≡ (ended_block s.block s).session) × (written out.new ≡ wrote_all (written out.old) (ended_block s.block s).pieces) }
 {
     match s.block {
         None => wrong(s, out),
@@ -61,8 +61,8 @@ fn end_block<const N: usize>(s: Session, out: &mut Sheet<N>) -> Session
 }
 
 #[tactic(auto, unfolding(digits::specs::Sheets::wrote_all))]
-fn in_block<const N: usize>(s: Session, line: Option<Line>, out: &mut Sheet<N>) -> Session
-    ensures { (result ≡ (in_block s line).session) × (out.new ≡ wrote_all out.old (in_block s line).pieces) }
+fn in_block(s: Session, line: Option<Line>, out: &mut Sheet<'_>) -> Session
+    ensures { (result ≡ (in_block s line).session) × (written out.new ≡ wrote_all (written out.old) (in_block s line).pieces) }
 {
     if is_end(line) {
         return end_block(s, out);
@@ -70,35 +70,35 @@ fn in_block<const N: usize>(s: Session, line: Option<Line>, out: &mut Sheet<N>) 
     blocks::block_line(s, line)
 }
 
-fn ask<const N: usize>(s: Session, call: CallLine, text: &[u8], out: &mut Sheet<N>) -> Session
-    ensures { (result ≡ (Lines.outside s (Some (Asks call)) text.now).session) × (out.new ≡ wrote_all out.old (Lines.outside s (Some (Asks call)) text.now).pieces) }
+fn ask(s: Session, call: CallLine, text: &[u8], out: &mut Sheet<'_>) -> Session
+    ensures { (result ≡ (Lines.outside s (Some (Asks call)) text.now).session) × (written out.new ≡ wrote_all (written out.old) (Lines.outside s (Some (Asks call)) text.now).pieces) }
 {
     let unit = answers::make(s.unit, call, text, out);
     blocks::with_unit(s, unit)
 }
 
-fn print_record<const N: usize>(s: Session, out: &mut Sheet<N>) -> Session
-    ensures { (result ≡ s) × (out.new ≡ wrote_all out.old (shown s.unit)) }
+fn print_record(s: Session, out: &mut Sheet<'_>) -> Session
+    ensures { (result ≡ s) × (written out.new ≡ wrote_all (written out.old) (shown s.unit)) }
 {
     spelling::show(s.unit, out);
     s
 }
 
-fn print_table<const N: usize>(s: Session, out: &mut Sheet<N>) -> Session
-    ensures { (result ≡ s) × (out.new ≡ wrote_all out.old (table_lines s.unit)) }
+fn print_table(s: Session, out: &mut Sheet<'_>) -> Session
+    ensures { (result ≡ s) × (written out.new ≡ wrote_all (written out.old) (table_lines s.unit)) }
 {
     table::put_table(s.unit, out);
     s
 }
 
 #[tactic(auto, unfolding(digits::specs::Sheets::wrote_all))]
-fn outside<const N: usize>(
+fn outside(
     s: Session,
     line: Option<Line>,
     text: &[u8],
-    out: &mut Sheet<N>,
+    out: &mut Sheet<'_>,
 ) -> Session
-    ensures { (result ≡ (Lines.outside s line text.now).session) × (out.new ≡ wrote_all out.old (Lines.outside s line text.now).pieces) }
+    ensures { (result ≡ (Lines.outside s line text.now).session) × (written out.new ≡ wrote_all (written out.old) (Lines.outside s line text.now).pieces) }
 {
     match line {
         Some(Line::Blank) => s,
@@ -112,8 +112,8 @@ fn outside<const N: usize>(
 }
 
 // Answers the line whose bytes before the LF are `text`, and hands back the session after it.
-pub fn respond<const N: usize>(s: Session, text: &[u8], out: &mut Sheet<N>) -> Session
-    ensures { (result ≡ (response s text.now).session) × (out.new ≡ wrote_all out.old (response s text.now).pieces) }
+pub fn respond(s: Session, text: &[u8], out: &mut Sheet<'_>) -> Session
+    ensures { (result ≡ (response s text.now).session) × (written out.new ≡ wrote_all (written out.old) (response s text.now).pieces) }
 {
     let line = script::read(text);
     if blocks::is_open(s.block) {

@@ -2,7 +2,7 @@
 use mathlib.Core.Path.{◌≡◌, ◌∙◌}
 use mathlib.Core.List.{List, [], ◌∷◌, ◌++◌, map, map-append}
 use Prim.Native.Nat.{ℕ}
-use Rattle.digits.specs.declared.Sheet.{Sheet}
+use Rattle.digits.specs.Sheets.{Written}
 use Rattle.digits.specs.Sheets.{wrote_all, line_text}
 use Rattle.digits.proofs.Sheets.{Adds, wrote_then}
 use Rattle.reader.specs.PageCalls.{faults_outcome}
@@ -11,7 +11,7 @@ use Rattle.faults.specs.declared.Faults.{Faults}
 use Rattle.refusals.specs.declared.Refusal.{Refusal}
 use Rattle.report.specs.Report.{texts_by, report_texts, report_lines}
 
-pub all_written : {N : ℕ} {headed rowed listed end : Sheet N} (s : Sheet N) (head : List ℕ) (rows faults : List (List ℕ)) (total : List ℕ)
+pub all_written : {headed rowed listed end : Written} (s : Written) (head : List ℕ) (rows faults : List (List ℕ)) (total : List ℕ)
     → Adds s head headed → rowed ≡ wrote_all headed (map line_text rows) → listed ≡ wrote_all rowed (map line_text faults)
     → Adds listed total end → end ≡ wrote_all s (map line_text (head ∷ rows ++ faults ++ total ∷ []))
 unfolding wrote_all

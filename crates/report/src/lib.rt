@@ -3,7 +3,7 @@
 
 ghost use Rattle.std.specs.Prelude.{◌++◌, map, ◌≡◌, ◌<◌, Ok};
 ghost use Rattle.conditions.specs.Conditions.{condition_at};
-ghost use Rattle.digits.specs.Sheets.{wrote_all, line_text};
+ghost use Rattle.digits.specs.Sheets.{written, wrote_all, line_text};
 ghost use Rattle.digits.specs.Texts.{said, cut};
 ghost use Rattle.report.specs.Report.{not_read_text, page_row, row_of, place_text, owner_text, kind_text, fault_text, many_text, total_text, texts_by, report_lines, Reported};
 
@@ -111,8 +111,8 @@ fn total_line(n: u32) -> Text
 
 // The report of a page that is read.
 #[tactic(auto, unfolding(digits::specs::Sheets::wrote_all))]
-fn put_found<const N: usize>(page: &[u8], f: Faults, out: &mut Sheet<N>)
-    ensures { out.new ≡ wrote_all out.old (map line_text (texts_by page.now (Ok f))) }
+fn put_found(page: &[u8], f: Faults, out: &mut Sheet<'_>)
+    ensures { written out.new ≡ wrote_all (written out.old) (map line_text (texts_by page.now (Ok f))) }
 {
     out.put_line(Text::of(
         b"condition supp save chng       default s         saved s       current s  recovery ms",
@@ -127,8 +127,8 @@ fn put_found<const N: usize>(page: &[u8], f: Faults, out: &mut Sheet<N>)
     out.put_line(total_line(f.total));
 }
 
-fn put_lines<const N: usize>(page: &[u8], out: &mut Sheet<N>)
-    ensures { out.new ≡ wrote_all out.old (report_lines page.now) }
+fn put_lines(page: &[u8], out: &mut Sheet<'_>)
+    ensures { written out.new ≡ wrote_all (written out.old) (report_lines page.now) }
 {
     match reader::page_faults(page) {
         Ok(faults) => put_found(page, faults, out),
@@ -136,10 +136,11 @@ fn put_lines<const N: usize>(page: &[u8], out: &mut Sheet<N>)
     }
 }
 
-// The report alone on a sheet that holds every report.
-pub fn put_report(page: &[u8], out: &mut Sheet<9216>)
-    ensures { Reported page.now out.new.len out.new.bytes }
+// The same into a buffer that holds every report: its first bytes, as many as are answered, are the whole report.
+pub fn put_report(page: &[u8], out: &mut [u8; 9216]) -> usize
+    ensures { Reported page.now result out.new }
 {
-    out.len = 0;
-    put_lines(page, out);
+    let mut sheet = Sheet::on(out, 0);
+    put_lines(page, &mut sheet);
+    sheet.len
 }

@@ -5,13 +5,13 @@ use Rattle.unit.specs.declared.Unit.{Unit}
 use Rattle.words.specs.Codes.{codes}
 use Rattle.asked.specs.declared.Part.TheVariants.{IsOf, Stands, HasOut}
 use Rattle.asked.specs.Records.{settings_of, state_of, slot_part, held_part, counts_part}
-use Rattle.digits.specs.declared.Sheet.{Sheet}
+use Rattle.digits.specs.Sheets.{Written}
 use Rattle.digits.specs.Sheets.{wrote_all}
 use Rattle.digits.proofs.Sheets.{Adds, AddsAll}
 use Rattle.spelling.specs.Spelling.{part_text, shown}
 
-module _ {N : ℕ} (u : Unit) where
-  pub shown_by : (a : Sheet N) {b c d e f g h i j : Sheet N}
+module _ (u : Unit) where
+  pub shown_by : (a : Written) {b c d e f g h i j : Written}
       → Adds a (codes "unit") b
       → Adds b (part_text (IsOf u.edition)) c
       → AddsAll c (λ k. part_text (settings_of u k)) 5 d

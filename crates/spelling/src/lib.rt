@@ -2,7 +2,7 @@
 #![tactic(auto, using(digits::proofs::Digits::one_by_one))]
 
 ghost use Rattle.std.specs.Prelude.{◌++◌, ◌≡◌, ◌<◌, get_or};
-ghost use Rattle.digits.specs.Sheets.{wrote_all};
+ghost use Rattle.digits.specs.Sheets.{written, wrote_all};
 ghost use Rattle.digits.specs.Texts.{said, cut};
 ghost use Rattle.asked.specs.Records;
 ghost use Rattle.asked.specs.Records.{settings_of, state_of};
@@ -210,8 +210,8 @@ fn spell(p: Part) -> Text
 
 // `show`: "a `unit` block that would set it".
 #[tactic(auto, unfolding(digits::specs::Sheets::wrote_all))]
-pub fn show<const N: usize>(u: Unit, out: &mut Sheet<N>)
-    ensures { out.new ≡ wrote_all out.old (shown u) }
+pub fn show(u: Unit, out: &mut Sheet<'_>)
+    ensures { written out.new ≡ wrote_all (written out.old) (shown u) }
 {
     out.put_line(Text::of(b"unit"));
     out.put_line(spell(Part::IsOf(u.edition)));

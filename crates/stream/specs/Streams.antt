@@ -1,7 +1,6 @@
 -- The format page, "Lines and words": what a script prints, byte by byte, so that nothing hangs on the pieces it comes in. Assumes nothing.
 use Rattle.std.specs.Prelude.{false, cond, List, [], ◌∷◌, ◌++◌, ℕ, ◌-◌, eqb, drop, take}
 use Prim.Native.Char.{code}
-use Rattle.digits.specs.declared.Sheet.{Sheet}
 use Rattle.digits.specs.Sheets.{joined}
 use Rattle.blocks.specs.Sessions.{start_session, is_open}
 use Rattle.blocks.specs.declared.Session.{Session}
@@ -54,15 +53,8 @@ emptied s = record { session = s.session; kept = s.kept; printed = [] }
 
 -- ---- the code's run
 
--- What is kept of an unended line, and what is printed.
-abbrev pub kept : Sheet 4001 → List ℕ
-kept line = take line.len line.bytes
-
-abbrev pub printed : Sheet 16384 → List ℕ
-printed out = take out.len out.bytes
-
-abbrev pub stream_of : Run → Sheet 4001 → Sheet 16384 → Stream
-stream_of r line out = record { session = r.session; kept = kept line; printed = printed out }
+abbrev pub stream_of : Run → List ℕ → List ℕ → Stream
+stream_of r line out = record { session = r.session; kept = take r.len line; printed = take r.at out }
 
 -- The bytes from a place up to another.
 abbrev pub bytes_between : ℕ → ℕ → List ℕ → List ℕ

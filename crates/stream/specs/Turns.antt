@@ -1,6 +1,5 @@
 -- The format page's head: what the program writes, turn by turn, of the script that it reads. Assumes nothing.
 use Rattle.std.specs.Prelude.{◌≡◌, Bool, true, false, cond, List, [], ◌∷◌, ◌++◌, ℕ, ◌<◌, ◌≤◌, length, drop, take}
-use Rattle.digits.specs.declared.Sheet.{Sheet}
 use Rattle.intake.specs.Intake.{is_answered}
 use Rattle.stream.specs.Streams.{Stream, fed_all, finished, unfed, printed_by, emptied, stream_of, bytes_between}
 use Rattle.stream.specs.declared.Turn.{Turn}
@@ -74,14 +73,11 @@ NothingMore = (s : Standing) (piece : List ℕ) (more : ℕ) (reads : List (List
 
 -- ---- the code's turns
 
-abbrev pub standing_of : Turn → List ℕ → Sheet 4001 → Sheet 16384 → Standing
+abbrev pub standing_of : Turn → List ℕ → List ℕ → List ℕ → Standing
 standing_of t input line out = record { stream = stream_of t.run line out; unanswered = bytes_between t.run.from t.to input; goes = t.goes }
 
--- On sheets on which nothing is written.
 abbrev pub Starts : Turn → Type 0
-Starts t =
-    ((input : List ℕ) (line : Sheet 4001) (out : Sheet 16384) → line.len ≡ 0 → out.len ≡ 0 → standing_of t input line out ≡ started)
-    × (t.to ≡ 0)
+Starts t = ((input line out : List ℕ) → standing_of t input line out ≡ started) × (t.to ≡ 0) × (t.run.at ≡ 0)
 
 abbrev pub nothing_in : List ℕ → Bool
 nothing_in [] = true
@@ -90,5 +86,5 @@ nothing_in (b ∷ bs) = false
 -- By the places of the buffer the program can tell whether it is to read.
 abbrev pub ReadsIfNone : Type 0
 ReadsIfNone =
-    (t : Turn) (input : List ℕ) (line : Sheet 4001) (out : Sheet 16384) → t.to ≤ length input
+    (t : Turn) (input line out : List ℕ) → t.to ≤ length input
     → is_answered t.run.from t.to ≡ nothing_in (standing_of t input line out).unanswered

@@ -1,21 +1,20 @@
 // The script as a stream of bytes, in whatever pieces it comes, and the turns in which the program reads, answers and writes it.
 #![tactic(auto)]
 
-ghost use Rattle.std.specs.Prelude.{◌≡◌, ◌+◌, ◌≤◌, ◌<◌, ◌++◌, min, length, take};
-ghost use Rattle.digits.specs.Sheets.{joined};
+ghost use Rattle.std.specs.Prelude.{◌≡◌, ◌+◌, ◌≤◌, ◌<◌, min, length, take};
 ghost use Rattle.intake.specs.Intake.{clamped};
-ghost use Rattle.replies.specs.Lines.{response};
-ghost use Rattle.stream.specs.Streams.{kept, printed, stream_of, fed_all, finished, bytes_between};
+ghost use Rattle.stream.specs.Streams.{stream_of, answered, fed_all, finished, bytes_between};
 ghost use Rattle.stream.specs.Turns.{Turned, Starts, standing_of};
 
 use blocks::Session;
 use digits::Sheet;
 
-// Where a run of a script stands: its session, and how far the input is read. What is kept of an unended line stands on a sheet beside it, and
-// what is printed on another.
+// Where a run of a script stands: its session, how many bytes of an unended line are kept, how far `out` is written and the input read.
 #[derive(Clone, Copy)]
 pub struct Run {
     pub session: Session,
+    pub len: usize,
+    pub at: usize,
     pub from: usize,
 }
 
@@ -30,66 +29,80 @@ pub struct Turn {
 pub fn start() -> Turn
     ensures { Starts result }
 {
-    let session = blocks::start();
-    let run = Run { session, from: 0 };
     Turn {
-        run,
+        run: Run {
+            session: blocks::start(),
+            len: 0,
+            at: 0,
+            from: 0,
+        },
         to: 0,
         goes: true,
     }
 }
 
-// Answers the line that is kept. No answer has more than 4,096 bytes.
-fn end_line(session: Session, line: &Sheet<4001>, out: &mut Sheet<16384>) -> Session
-    requires { out.old.len + 4096 ≤ length out.old.bytes }
-    ensures { (result ≡ (response session (kept line.now)).session) × (printed out.new ≡ printed out.old ++ joined (response session (kept line.now)).pieces) × (out.new.len ≤ out.old.len + 4096) × (length out.new.bytes ≡ length out.old.bytes) }
+// Answers the line that is kept, and keeps none of it. No answer has more than 4,096 bytes.
+fn end_line(r: Run, line: &[u8], out: &mut [u8]) -> Run
+    requires { r.at + 4096 ≤ length out.old }
+    ensures { (stream_of result line.now out.new ≡ answered (stream_of r line.now out.old)) × (result.from ≡ r.from) × (result.at ≤ r.at + 4096) }
 {
-    replies::respond(session, line.written(), out)
+    let n = r.len.min(line.len());
+    let mut sheet = Sheet::on(out, r.at);
+    let session = replies::respond(r.session, &line[..n], &mut sheet);
+    Run {
+        session,
+        len: 0,
+        at: sheet.len,
+        from: r.from,
+    }
 }
 
-// Goes on from `r.from` to the end of that line, of which nothing is kept then, or of the input.
-fn feed_line(r: Run, input: &[u8], line: &mut Sheet<4001>, out: &mut Sheet<16384>) -> Run
+// Goes on from `r.from` to the end of that line or of the input.
+fn feed_line(r: Run, input: &[u8], line: &mut [u8], out: &mut [u8]) -> Run
     requires from_in_bounds { r.from < length input.now }
-    requires out_in_bounds { out.old.len + 4096 ≤ length out.old.bytes }
-    ensures { (stream_of result line.new out.new ≡ fed_all (stream_of r line.old out.old) (bytes_between r.from result.from input.now)) × (r.from < result.from) × (result.from ≤ length input.now) × (out.new.len ≤ length out.new.bytes) × (length out.new.bytes ≡ length out.old.bytes) }
+    requires line_len { length line.old ≡ 4001 }
+    requires at_in_bounds { r.at + 4096 ≤ length out.old }
+    ensures { (stream_of result line.new out.new ≡ fed_all (stream_of r line.old out.old) (bytes_between r.from result.from input.now)) × (r.from < result.from) × (result.from ≤ length input.now) × (result.at ≤ length out.new) }
 {
     let from = r.from;
     let end = words::line_end(input, from);
-    let more = &input[from..end];
-    line.len = words::append(&mut line.bytes, line.len, more);
+    let mut run = r;
+    run.len = words::append(line, r.len, &input[from..end]);
+    run.from = end;
     if end == input.len() {
-        return Run { from: end, ..r };
+        return run;
     }
-    let session = end_line(r.session, line, out);
-    line.len = 0;
-    Run {
-        session,
-        from: end + 1,
-    }
+    run.from = end + 1;
+    end_line(run, line, out)
 }
 
 // Goes on from `r.from` to the end of the input, or until `out`, which is written from its start, may have no room for another answer.
-fn feed(r: Run, input: &[u8], line: &mut Sheet<4001>, out: &mut Sheet<16384>) -> Run
-    requires { out.old.len ≡ 0 }
-    ensures { (stream_of result line.new out.new ≡ fed_all (stream_of r line.old out.old) (bytes_between r.from result.from input.now)) × (r.from ≤ result.from) × (min (r.from + 1) (length input.now) ≤ result.from) × (out.new.len ≤ length out.new.bytes) × (length out.new.bytes ≡ length out.old.bytes) }
+fn feed(r: Run, input: &[u8], line: &mut [u8], out: &mut [u8]) -> Run
+    requires at_value { r.at ≡ 0 }
+    requires line_len { length line.old ≡ 4001 }
+    requires in_bounds { 4096 ≤ length out.old }
+    ensures { (stream_of result line.new out.new ≡ fed_all (stream_of r line.old out.old) (bytes_between r.from result.from input.now)) × (r.from ≤ result.from) × (min (r.from + 1) (length input.now) ≤ result.from) × (result.at ≤ length out.new) }
 {
-    let room = out.bytes.len() - 4096;
+    let room = out.len() - 4096;
     let mut run = r;
-    while (run.from < input.len()) & (out.len <= room) {
+    while (run.from < input.len()) & (run.at <= room) {
         run = feed_line(run, input, line, out);
     }
     run
 }
 
 // The end of the input.
-fn finish(r: Run, line: &Sheet<4001>, out: &mut Sheet<16384>)
-    requires { out.old.len + 8192 ≤ length out.old.bytes }
-    ensures { (printed out.new ≡ finished (stream_of r line.now out.old)) × (out.new.len ≤ length out.new.bytes) × (length out.new.bytes ≡ length out.old.bytes) }
+fn finish(r: Run, line: &[u8], out: &mut [u8]) -> usize
+    requires { r.at + 8192 ≤ length out.old }
+    ensures { (take result out.new ≡ finished (stream_of r line.now out.old)) × (result ≤ length out.new) }
 {
-    let session = end_line(r.session, line, out);
-    if blocks::is_open(session.block) {
-        replies::put_ok(false, out);
+    let last = end_line(r, line, out);
+    if blocks::is_open(last.session.block) {
+        let mut sheet = Sheet::on(out, last.at);
+        replies::put_ok(false, &mut sheet);
+        return sheet.len;
     }
+    last.at
 }
 
 // A turn of the program, which has written out what was printed and then, if all that it had read was answered, has read: it is told whether
@@ -99,18 +112,18 @@ pub fn go_on(
     written: bool,
     got: Option<usize>,
     input: &[u8; 65536],
-    line: &mut Sheet<4001>,
-    out: &mut Sheet<16384>,
+    line: &mut [u8; 4001],
+    out: &mut [u8; 16384],
 ) -> Turn
     requires { t.to ≤ 65536 }
-    ensures { Turned (standing_of t input.now line.old out.old) written (take (clamped got 65536) input.now) (standing_of result input.now line.new out.new) × (result.to ≤ 65536) × (out.new.len ≤ 16384) }
+    ensures { Turned (standing_of t input.now line.old out.old) written (take (clamped got 65536) input.now) (standing_of result input.now line.new out.new) × (result.to ≤ 65536) × (result.run.at ≤ length out.new) }
 {
     let pace = intake::pace_next(t.run.from, t.to, written, got, 65536);
-    let run = Run {
+    let mut run = Run {
+        at: 0,
         from: pace.from,
         ..t.run
     };
-    out.len = 0;
     if pace.goes {
         let to = pace.to;
         let fed = feed(run, &input[..to], line, out);
@@ -120,8 +133,8 @@ pub fn go_on(
             goes: true,
         };
     }
-    finish(run, line, out);
-    out.len = intake::to_write(written, out.len);
+    let n = finish(run, line, out);
+    run.at = intake::to_write(written, n);
     Turn {
         run,
         to: 0,

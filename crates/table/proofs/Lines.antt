@@ -3,7 +3,7 @@ use mathlib.Core.Path.{◌≡◌}
 use mathlib.Core.List.{List}
 use Prim.Native.Nat.{ℕ, suc}
 use Rattle.unit.specs.declared.Unit.{Unit}
-use Rattle.digits.specs.declared.Sheet.{Sheet}
+use Rattle.digits.specs.Sheets.{Written}
 use Rattle.digits.specs.Sheets.{wrote_all}
 use Rattle.digits.proofs.Sheets.{Adds, AddsAll}
 use Rattle.table.specs.Below.{edition_text, stopped_text, unsaved_text, idle_text, out_text, host_text}
@@ -14,8 +14,8 @@ use Rattle.table.specs.Table.{head_text, rule_text, texts, table_lines}
 abbrev pub condition_row : Unit → ℕ → List ℕ
 condition_row u place = row_text u.drive (suc place)
 
-module _ {N : ℕ} (u : Unit) where
-  pub table_by : (a : Sheet N) {b c d e f g h i j k l m : Sheet N}
+module _ (u : Unit) where
+  pub table_by : (a : Written) {b c d e f g h i j k l m : Written}
       → Adds a head_text b → Adds b rule_text c → Adds c (active_row u.drive) d → AddsAll d (condition_row u) 5 e
       → Adds e (edition_text u.edition) f → Adds f (stopped_text u) g → Adds g (unsaved_text u) h → Adds h (idle_text u) i → Adds i (out_text u.out) j
       → AddsAll j (host_text u) 4 k → Adds k count_head l → AddsAll l (count_row u) 6 m

@@ -3,7 +3,7 @@
 #![tactic(auto, using(digits::proofs::Digits::one_by_one))]
 
 ghost use Rattle.std.specs.Prelude.{◌++◌, ◌≡◌, ◌<◌};
-ghost use Rattle.digits.specs.Sheets.{wrote_all};
+ghost use Rattle.digits.specs.Sheets.{written, wrote_all};
 ghost use Rattle.digits.specs.Texts.{said, cut};
 ghost use Rattle.table.specs.Below;
 ghost use Rattle.table.specs.Below.{edition_text, out_text, target_text, stage_text, request_text, slot_text, sense_held_text, held_text, host_text};
@@ -258,8 +258,8 @@ fn count_row(u: Unit, row: usize) -> Text
 // ---- the whole
 
 #[tactic(auto, unfolding(digits::specs::Sheets::wrote_all))]
-pub fn put_table<const N: usize>(u: Unit, out: &mut Sheet<N>)
-    ensures { out.new ≡ wrote_all out.old (table_lines u) }
+pub fn put_table(u: Unit, out: &mut Sheet<'_>)
+    ensures { written out.new ≡ wrote_all (written out.old) (table_lines u) }
 {
     out.put_line(Text::of(
         b"  condition supp save chng       default s         saved s       current s   time left s  recovery ms",

@@ -7,7 +7,7 @@ use Rattle.answers.proofs.LogPage.{page_keeps}
 use Rattle.answers.proofs.log.Goals as goal
 
 pub returns : goal.returns
-returns g c =
+returns c =
     let whole = c.unwritten-buffer in
     let n = c.buffer_len-n in
     let a = c.read_page-a in

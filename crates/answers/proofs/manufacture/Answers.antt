@@ -3,4 +3,4 @@ use Rattle.answers.proofs.Tellings.{line_told}
 use Rattle.answers.proofs.manufacture.Goals as goal
 
 pub returns : goal.returns
-returns g c = line_told _ _ c.made_by.ensures c.put_told.ensures
+returns c = line_told _ _ c.made_by.ensures c.put_told.ensures

@@ -5,7 +5,7 @@ use Rattle.answers.proofs.Buffers.{has_room_lem, lent_front, ComesBack, comes_ba
 use Rattle.answers.proofs.sense.Goals as goal
 
 pub returns : goal.returns
-returns g c =
+returns c =
     let whole = c.unwritten-buffer in
     let n = c.buffer_len-n in
     let s = c.request_sense-c in

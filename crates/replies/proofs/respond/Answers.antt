@@ -15,9 +15,9 @@ unfolding response
 answered s text b e = ap (λ (b : Bool). cond b (in_block s (line_of_text text)) (outside s (line_of_text text) text)) e
 
 pub returns-then-is_open : goal.returns-then-is_open
-returns-then-is_open g c = rw (answered c.args.s c.args.text.now true (sym c.is_open.ensures ∙ c.if-is_open.true))
+returns-then-is_open c = rw (answered c.args.s c.args.text.now true (sym c.is_open.ensures ∙ c.if-is_open.true))
     (rw c.read-line.ensures at c.in_block.ensures)
 
 pub returns : goal.returns
-returns g c = rw (answered c.args.s c.args.text.now false (sym c.is_open.ensures ∙ c.if-is_open.false))
+returns c = rw (answered c.args.s c.args.text.now false (sym c.is_open.ensures ∙ c.if-is_open.false))
     (rw c.read-line.ensures at c.outside.ensures)

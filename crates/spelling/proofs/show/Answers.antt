@@ -2,32 +2,33 @@
 use mathlib.Core.Path.{◌≡◌}
 use native.Mathlib.Omega.{arith}
 use Rattle.asked.specs.Records.{settings_of, slot_part, held_part}
+use Rattle.digits.specs.Sheets.{written}
 use Rattle.digits.proofs.Sheets.{adds, adds_next}
 use Rattle.spelling.specs.Spelling.{part_text}
 use Rattle.spelling.proofs.Lines.{shown_by}
 use Rattle.spelling.proofs.show.Goals as goal
 
 pub loop-place-preserved : goal.loop-place-preserved
-loop-place-preserved g c =
+loop-place-preserved c =
     adds_next _ (λ k. part_text (settings_of c.args.u k)) c.loop-place.place c.loop-place.invariant c.put_line-in-loop-place.ensures
     (rw c.settings_of.ensures at c.spell-in-loop-place.ensures)
 
 pub loop-host-preserved : goal.loop-host-preserved
-loop-host-preserved g c =
+loop-host-preserved c =
     adds_next _ (λ k. part_text (slot_part c.args.u k)) c.loop-host.host c.loop-host.invariant c.put_line-in-loop-host.ensures
     (rw c.slot_of.ensures at c.spell-in-loop-host.ensures)
 
 pub loop-holder-preserved : goal.loop-holder-preserved
-loop-holder-preserved g c =
+loop-holder-preserved c =
     adds_next _ (λ k. part_text (held_part c.args.u k)) c.loop-holder.holder c.loop-holder.invariant c.put_line-in-loop-holder.ensures
     (rw c.held_of.ensures at c.spell-in-loop-holder.ensures)
 
 pub returns : goal.returns
-returns g c =
+returns c =
     let places : c.loop-place.place ≡ 5 = omega arith in
     let hosts : c.loop-host.host ≡ 4 = omega arith in
     let holders : c.loop-holder.holder ≡ 4 = omega arith in
-    shown_by c.args.u c.args.out.now
+    shown_by c.args.u (written c.args.out.now)
     (adds _ _ c.put_line.ensures c.of.ensures)
     (adds _ _ c.put_line-2.ensures c.spell.ensures)
     (rw places at c.loop-place.invariant)

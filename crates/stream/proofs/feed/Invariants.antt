@@ -8,9 +8,10 @@ use Rattle.stream.proofs.feed.Given as goal
 
 abbrev pub invariant-loop-run : goal.invariant-loop-run
 invariant-loop-run l = (stream_of l.run l.line l.out ≡ fed_all (stream_of l.initial.run l.initial.line l.initial.out) (bytes_between l.initial.run.from l.run.from l.input))
-    × (l.initial.run.from + min 1 l.out.len ≤ l.run.from)
-    × (l.out.len ≤ length l.out.bytes)
-    × (length l.out.bytes ≡ length l.initial.out.bytes)
+    × (l.initial.run.from + min 1 l.run.at ≤ l.run.from)
+    × (l.run.at ≤ length l.out)
+    × (length l.line ≡ length l.initial.line)
+    × (length l.out ≡ length l.initial.out)
 
 abbrev pub decreases-loop-run : goal.decreases-loop-run
 decreases-loop-run l = length l.input - l.run.from

@@ -23,7 +23,7 @@ returns-then-pace c =
       goes_on_lem input t.run.from t.to c.args.written n s t.goes pace.result told
           inside few c.feed-fed.result.from c.if-pace.true c.feed-fed.ensures.0 c.feed-fed.ensures.2,
       within,
-      omega (arith, c.feed-fed.ensures.3, c.feed-fed.ensures.4),
+      c.feed-fed.ensures.3,
     )
 
 pub returns : goal.returns
@@ -33,10 +33,11 @@ returns c =
     let s = stream_of t.run c.args.line.now c.args.out.now in
     let n = clamped c.args.got 65536 in
     let told : pace.result ≡ pace_next t.run.from t.to c.args.written n = pace.ensures in
-    let out = c.finish.new.out in
-    let last = ap (λ k. take k out.bytes) c.to_write-out.ensures ∙ cut c.args.written out.len out.bytes c.finish.ensures.0 in
+    let ended = c.finish-n in
+    let out = ended.new.out in
+    let last = ap (λ k. take k out) c.to_write.ensures ∙ cut c.args.written ended.result out ended.ensures.0 in
     let none : 0 - pace.result.from ≡ 0 = omega arith in (
       rw none (stops c.args.input.now t.run.from t.to c.args.written n s t.goes pace.result told c.if-pace.false last),
       omega arith,
-      omega (arith, c.to_write-out.ensures, cut_less c.args.written out.len, c.finish.ensures.1, c.finish.ensures.2),
+      omega (arith, c.to_write.ensures, cut_less c.args.written ended.result, ended.ensures.1),
     )

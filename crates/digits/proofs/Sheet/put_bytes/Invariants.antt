@@ -2,8 +2,8 @@
 use mathlib.Core.Path.{◌≡◌}
 use lib.ListN.{take}
 use Rattle.digits.specs.Numerals.{pairs}
-use Rattle.digits.specs.Sheets.{wrote}
+use Rattle.digits.specs.Sheets.{written, wrote}
 use Rattle.digits.proofs.Sheet.put_bytes.Given as goal
 
 abbrev pub invariant-loop-b : goal.invariant-loop-b
-invariant-loop-b g l = l.self ≡ wrote l.initial.self (pairs (take l.b-index l.bytes))
+invariant-loop-b l = written l.self ≡ wrote (written l.initial.self) (pairs (take l.b-index l.bytes))
