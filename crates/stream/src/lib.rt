@@ -73,6 +73,7 @@ fn feed(r: Run, input: &[u8], line: &mut Sheet<4001>, out: &mut Sheet<16384>) ->
     requires { out.old.len ≡ 0 }
     ensures { (stream_of result line.new out.new ≡ fed_all (stream_of r line.old out.old) (bytes_between r.from result.from input.now)) × (r.from ≤ result.from) × (min (r.from + 1) (length input.now) ≤ result.from) × (out.new.len ≤ length out.new.bytes) × (length out.new.bytes ≡ length out.old.bytes) }
 {
+    // Stays a while: a turn goes on by a line, and the room that is left decides whether there is another.
     let room = out.bytes.len() - 4096;
     let mut run = r;
     while (run.from < input.len()) & (out.len <= room) {
