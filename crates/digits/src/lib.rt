@@ -10,7 +10,7 @@ ghost use Rattle.digits.specs.Texts.{said, cut};
 
 // ---- a line
 
-// Each line but a byte string has fewer than 128 bytes.
+// Each line but a byte string has fewer than 128 bytes. Stays a type of its own: std's `InlineText` ends in dots what it cuts, a line is cut as it stands.
 #[derive(Clone, Copy)]
 pub struct Text {
     pub bytes: [u8; 128],
