@@ -184,13 +184,7 @@ fn page_faults(u: Unit, len: u32, text: &[u8], out: &mut Sheet<'_>) -> Unit
     u
 }
 
-fn page_record(
-    u: Unit,
-    c: Condition,
-    len: u32,
-    text: &[u8],
-    out: &mut Sheet<'_>,
-) -> Unit
+fn page_record(u: Unit, c: Condition, len: u32, text: &[u8], out: &mut Sheet<'_>) -> Unit
     ensures { (result ≡ u) × (written out.new ≡ wrote_all (written out.old) (record_pieces c len text.now)) }
 {
     findings::put_record(c, len, text, out);

@@ -92,12 +92,7 @@ fn print_table(s: Session, out: &mut Sheet<'_>) -> Session
 }
 
 #[tactic(auto, unfolding(digits::specs::Sheets::wrote_all))]
-fn outside(
-    s: Session,
-    line: Option<Line>,
-    text: &[u8],
-    out: &mut Sheet<'_>,
-) -> Session
+fn outside(s: Session, line: Option<Line>, text: &[u8], out: &mut Sheet<'_>) -> Session
     ensures { (result ≡ (Lines.outside s line text.now).session) × (written out.new ≡ wrote_all (written out.old) (Lines.outside s line text.now).pieces) }
 {
     match line {

@@ -42,7 +42,7 @@ pub fn start() -> Turn
 }
 
 // Answers the line that is kept, and keeps none of it. No answer has more than 4,096 bytes.
-fn end_line(r: Run, line: &[u8], out: &mut [u8]) -> Run
+fn end_line(r: Run, line: &[u8; 4001], out: &mut [u8; 16384]) -> Run
     requires { r.at + 4096 ≤ length out.old }
     ensures { (stream_of result line.now out.new ≡ answered (stream_of r line.now out.old)) × (result.from ≡ r.from) × (result.at ≤ r.at + 4096) }
 {
@@ -58,9 +58,8 @@ fn end_line(r: Run, line: &[u8], out: &mut [u8]) -> Run
 }
 
 // Goes on from `r.from` to the end of that line or of the input.
-fn feed_line(r: Run, input: &[u8], line: &mut [u8], out: &mut [u8]) -> Run
+fn feed_line(r: Run, input: &[u8], line: &mut [u8; 4001], out: &mut [u8; 16384]) -> Run
     requires from_in_bounds { r.from < length input.now }
-    requires line_len { length line.old ≡ 4001 }
     requires at_in_bounds { r.at + 4096 ≤ length out.old }
     ensures { (stream_of result line.new out.new ≡ fed_all (stream_of r line.old out.old) (bytes_between r.from result.from input.now)) × (r.from < result.from) × (result.from ≤ length input.now) × (result.at ≤ length out.new) }
 {
@@ -77,12 +76,11 @@ fn feed_line(r: Run, input: &[u8], line: &mut [u8], out: &mut [u8]) -> Run
 }
 
 // Goes on from `r.from` to the end of the input, or until `out`, which is written from its start, may have no room for another answer.
-fn feed(r: Run, input: &[u8], line: &mut [u8], out: &mut [u8]) -> Run
-    requires at_value { r.at ≡ 0 }
-    requires line_len { length line.old ≡ 4001 }
-    requires in_bounds { 4096 ≤ length out.old }
+fn feed(r: Run, input: &[u8], line: &mut [u8; 4001], out: &mut [u8; 16384]) -> Run
+    requires { r.at ≡ 0 }
     ensures { (stream_of result line.new out.new ≡ fed_all (stream_of r line.old out.old) (bytes_between r.from result.from input.now)) × (r.from ≤ result.from) × (min (r.from + 1) (length input.now) ≤ result.from) × (result.at ≤ length out.new) }
 {
+    // Stays a while: a turn goes on by a line, and the room that is left decides whether there is another.
     let room = out.len() - 4096;
     let mut run = r;
     while (run.from < input.len()) & (run.at <= room) {
@@ -92,7 +90,7 @@ fn feed(r: Run, input: &[u8], line: &mut [u8], out: &mut [u8]) -> Run
 }
 
 // The end of the input.
-fn finish(r: Run, line: &[u8], out: &mut [u8]) -> usize
+fn finish(r: Run, line: &[u8; 4001], out: &mut [u8; 16384]) -> usize
     requires { r.at + 8192 ≤ length out.old }
     ensures { (take result out.new ≡ finished (stream_of r line.now out.old)) × (result ≤ length out.new) }
 {

@@ -1,7 +1,8 @@
 -- The line's answer is what `respond` gives to the bytes that are kept; it has room, so it stands behind what was printed.
 use mathlib.Core.Path.{◌≡◌, refl, sym, ap, ◌∙◌}
 use native.Mathlib.Omega.{arith}
-use lib.ListN.{take}
+use borrow.Author.Rules.{rules}
+use lib.ListN.{length, take}
 use Rattle.digits.specs.Sheets.{Written, written, wrote_all}
 use Rattle.digits.proofs.Sheets.{room, same_buffer}
 use Rattle.words.proofs.Room.{take_min}
@@ -17,7 +18,8 @@ shape_of-out c =
 pub returns : goal.returns
 returns c = let r = c.args.r in
     let line = c.args.line.now in
-    let kept : take c.min-n.result line ≡ take r.len line = rw c.min-n.ensures (sym (take_min r.len line)) in
+    let full : length line ≡ 4001 = search rules in
+    let kept : take c.min-n.result line ≡ take r.len line = rw c.min-n.ensures (rw full at (sym (take_min r.len line))) in
     let step = rw kept at c.respond-session.ensures in
     let pieces = (response r.session (take r.len line)).pieces in
     let small = answer_fits r.session (take r.len line) in

@@ -3,6 +3,7 @@ use mathlib.Core.Path.{◌≡◌, sym, ap, ◌∙◌}
 use mathlib.Core.List.{List, ◌++◌}
 use Prim.Native.Nat.{ℕ, ◌+◌, ◌≤◌}
 use native.Mathlib.Omega.{arith}
+use borrow.Author.Rules.{rules}
 use lib.ListN.{length, length-take, take, drop}
 use Rattle.words.specs.Lines.{before_feed}
 use Rattle.words.proofs.Scans.{feed, scan_within}
@@ -23,8 +24,8 @@ grows r input line more out end n full ends appended =
     let small : length s.kept ≤ 4001 = rw length-take (omega arith) in
     rw kept (sym (up_to_feed s input r.from end ends small))
 
-pub slice_bounds-append-end : goal.slice_bounds-append-end
-slice_bounds-append-end c =
+pub slice_bounds-append-end-2 : goal.slice_bounds-append-end-2
+slice_bounds-append-end-2 c =
     let end = c.line_end-end in
     let within : end.result ≤ length c.args.input.now = rw end.ensures (scan_within feed c.args.input.now c.args.r.from (omega arith)) in
     omega (arith, within)
@@ -33,7 +34,7 @@ pub returns-then-end-input : goal.returns-then-end-input
 returns-then-end-input c =
     let input = c.args.input.now in
     let grown = grows c.args.r input c.args.line.now c.append.new.line c.args.out.now c.line_end-end.result c.append.result
-    c.requires.line_len c.line_end-end.ensures c.append.ensures.0 in
+    (search rules) c.line_end-end.ensures c.append.ensures.0 in
     (grown, omega arith, omega arith, omega arith)
 
 pub returns : goal.returns
@@ -44,7 +45,7 @@ returns c =
     let input = c.args.input.now in
     let s = stream_of r c.args.line.now c.args.out.now in
     let grown = grows r input c.args.line.now c.append.new.line c.args.out.now end.result c.append.result
-    c.requires.line_len end.ensures c.append.ensures.0 in
+    (search rules) end.ensures c.append.ensures.0 in
     let within : end.result ≤ length input = rw end.ensures (scan_within feed input r.from (omega arith)) in (
       rw ended.1 (ended.0 ∙ ap answered grown ∙ sym (past_feed s input r.from end.result end.ensures (omega arith))),
       omega arith,

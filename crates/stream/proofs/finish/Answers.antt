@@ -9,8 +9,8 @@ use Rattle.replies.proofs.Sizes.{ok_fits}
 use Rattle.stream.specs.Streams.{closed_off}
 use Rattle.stream.proofs.finish.Goals as goal
 
-pub shape_of-out : goal.shape_of-out
-shape_of-out c =
+pub shape_of-out-then-is_open : goal.shape_of-out-then-is_open
+shape_of-out-then-is_open c =
     let lent = ap (λ (w : Written). w.lent) c.put_ok.ensures ∙ same_buffer (written c.on-sheet.result) (ok_or_error false) in
     sym (lent ∙ ap (λ (w : Written). w.lent) c.on-sheet.ensures)
 
