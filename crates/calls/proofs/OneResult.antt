@@ -3,6 +3,9 @@
 use mathlib.Core.Path.{◌≡◌, sym, ◌∙◌}
 use mathlib.Core.List.{List}
 use Prim.Native.Nat.{ℕ}
+use mathlib.Core.Logic.{◌↔◌}
+use Rattle.conditions.specs.Conditions.{condition_at}
+use Rattle.reader.specs.PageCalls.{record_outcome, faults_outcome}
 use Rattle.engine.proofs.manufacture.Reads as manufacture
 use Rattle.engine.proofs.set_features.Reads as set-features
 use Rattle.engine.proofs.tick.Reads as tick
@@ -115,16 +118,20 @@ one_transition_counts = (λ κs a. tt, λ κs a x y s t. same)
 pub one_new_page : AsksNothing new-page.Asked × OneResult new-page.Post × OneBuffer new-page.Post (λ κs s. s.1.1.0.now)
 one_new_page = (λ κs a. tt, λ κs a x y s t p q. same p.0 q.0, λ κs a x y s t p q. same p.1 q.1)
 
--- ---- document 02, request (v)
+-- ---- document 02, request (v); of the functions on a reader also what they promise: a reader of the lent page and that place, and of what it holds what
+-- the calls on a page give
 
 pub one_open_page : AsksNothing open-page.Asked × OneResult open-page.Post
-one_open_page = (λ κs a. tt, λ κs a x y s t p q. λ i. record { page = same p.0 q.0 i; place = same p.1 q.1 i })
+    × ((κs : _) (a : _) (x : _) (s : _) → open-page.Post κs a x s ↔ ((x.page ≡ a.0) × (x.place ≡ a.1.0)))
+one_open_page = (λ κs a. tt, λ κs a x y s t p q. λ i. record { page = same p.0 q.0 i; place = same p.1 q.1 i }, λ κs a x s. (λ p. p, λ p. p))
 
 pub one_read_record : AsksNothing read-record.Asked × OneResult read-record.Post
-one_read_record = (λ κs a. tt, λ κs a x y s t. same)
+    × ((κs : _) (a : _) (x : _) (s : _) → read-record.Post κs a x s ↔ (x ≡ record_outcome a.0.page.now (condition_at a.0.place)))
+one_read_record = (λ κs a. tt, λ κs a x y s t. same, λ κs a x s. (λ p. p, λ p. p))
 
 pub one_read_faults : AsksNothing read-faults.Asked × OneResult read-faults.Post
-one_read_faults = (λ κs a. tt, λ κs a x y s t. same)
+    × ((κs : _) (a : _) (x : _) (s : _) → read-faults.Post κs a x s ↔ (x ≡ faults_outcome a.0.page.now))
+one_read_faults = (λ κs a. tt, λ κs a x y s t. same, λ κs a x s. (λ p. p, λ p. p))
 
 pub one_page_record : AsksNothing page-record.Asked × OneResult page-record.Post
 one_page_record = (λ κs a. tt, λ κs a x y s t. same)
