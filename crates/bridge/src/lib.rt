@@ -46,17 +46,14 @@ pub fn start_stop_unit(u: Unit, host: u32, cdb: &[u8]) -> StartStopped
     ensures { result ≡ start_stop_outcome u host cdb.now }
 {
     let ok = unit::unit_ok(u);
-    let out = u.out;
-    let slots = u.slots;
-    let records = u.drive.records;
-    let own = unit::is_waiting(unit::slot_of(slots, host));
+    let own = unit::is_waiting(unit::slot_of(u.slots, host));
     let w = cdb::read_wanted(cdb);
-    let listed = cdb::is_listed(records, cdb, w);
+    let listed = cdb::is_listed(u.drive.records, cdb, w);
     let v = refusals::start_stop_verdict(
         cdb.len(),
         host,
         ok,
-        unit::is_out(out),
+        unit::is_out(u.out),
         own,
         cdb::byte_at(cdb, 0),
         listed,

@@ -43,7 +43,7 @@ examples *k = (refl, refl)
 examples *l = refl
 examples *m = refl
 
--- The table can fail: a step that always says Done and changes nothing is refuted by example a, which asks for a timer of 300.
+-- The table can fail: a step that always says that it was done and changes nothing is refuted by example a, which asks for a timer of 300.
 abbrev pub nothing_done : StepFunction
 nothing_done u c = untouched u
 

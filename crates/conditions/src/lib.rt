@@ -22,6 +22,7 @@ pub enum Cause {
 }
 
 // Active has no cause: the type keeps that clause of "well formed".
+// Stays an enum of its own: Active is a state with a name of its own, and not nothing.
 #[derive(Clone, Copy, PartialEq, Eq)]
 pub enum Power {
     Active,

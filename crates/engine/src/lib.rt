@@ -37,15 +37,14 @@ pub fn manufacture(edition: Edition, made: [Made; 5]) -> Called
 fn epc_effect(u: Unit, q: Registers) -> Unit
     ensures { result ≡ epc_effect q u }
 {
-    let d = u.drive;
-    unit::with_drive(u, epc::perform(q, d))
+    unit::with_drive(u, epc::perform(q, u.drive))
 }
 
 // An abort (10) restarts the idle count; any other refusal returns the record as it came.
 fn epc_refused(u: Unit, r: Refusal) -> Unit
     ensures { result ≡ epc_refused r u }
 {
-    if refusals::number(r) == 10 {
+    if r == Refusal::Aborted {
         unit::rest(u)
     } else {
         u
@@ -57,26 +56,16 @@ pub fn set_features(u: Unit, q: Registers) -> Called
     ensures { result ≡ epc_outcome u q }
 {
     let ok = unit::unit_ok(u);
-    let edition = u.edition;
-    let records = u.drive.records;
-    let out = u.out;
-    let v = refusals::epc_verdict(ok, unit::is_out(out), epc::aborts(edition, q, records));
-    match v {
-        Ok(()) => {
-            let changed = epc_effect(u, q);
-            Called {
-                answer: Ok(()),
-                unit: changed,
-            }
-        }
-        Err(r) => {
-            let kept = epc_refused(u, r);
-            Called {
-                answer: Err(r),
-                unit: kept,
-            }
-        }
-    }
+    let v = refusals::epc_verdict(
+        ok,
+        unit::is_out(u.out),
+        epc::aborts(u.edition, q, u.drive.records),
+    );
+    let unit = match v {
+        Ok(()) => epc_effect(u, q),
+        Err(r) => epc_refused(u, r),
+    };
+    Called { answer: v, unit }
 }
 
 // With a command out, or refused, neither the count nor the power moves.
@@ -120,8 +109,7 @@ pub fn tick(u: Unit) -> Called
 fn read_unless(u: Unit, kept: bool) -> Unit
     ensures { result ≡ cond kept u (read_effect u) }
 {
-    let d = u.drive;
-    unit::with_drive(u, drive::use_unless(d, kept))
+    unit::with_drive(u, drive::use_unless(u.drive, kept))
 }
 
 // "a write also sets the unsaved mark."
@@ -136,8 +124,7 @@ pub fn read(u: Unit, host: u32) -> Called
     ensures { result ≡ read_outcome u host }
 {
     let ok = unit::unit_ok(u);
-    let out = u.out;
-    let v = refusals::medium_verdict(host, ok, unit::is_out(out), u.stopped);
+    let v = refusals::medium_verdict(host, ok, unit::is_out(u.out), u.stopped);
     outcomes::settle(v, read_unless(u, v.is_err()))
 }
 
@@ -146,8 +133,7 @@ pub fn write(u: Unit, host: u32) -> Called
     ensures { result ≡ write_outcome u host }
 {
     let ok = unit::unit_ok(u);
-    let out = u.out;
-    let v = refusals::medium_verdict(host, ok, unit::is_out(out), u.stopped);
+    let v = refusals::medium_verdict(host, ok, unit::is_out(u.out), u.stopped);
     outcomes::settle(v, write_unless(u, v.is_err()))
 }
 
@@ -155,8 +141,7 @@ pub fn write(u: Unit, host: u32) -> Called
 fn power_on_unless(u: Unit, kept: bool) -> Unit
     ensures { result ≡ cond kept u (power_on_effect u) }
 {
-    let d = u.drive;
-    let on = unit::with_drive(u, drive::power_on_unless(d, kept));
+    let on = unit::with_drive(u, drive::power_on_unless(u.drive, kept));
     unit::without_hosts_unless(
         unit::with_marks(on, u.stopped & kept, u.unsaved & kept),
         kept,

@@ -14,6 +14,7 @@ use drive::{Drive, Edition, Record, Setting, Tenths};
 use registers::{Named, Registers};
 use std::array;
 
+// Stays an enum with a case for what is not listed: document 01's match over the codes and its refused ranges has that case.
 #[derive(Clone, Copy, PartialEq, Eq)]
 pub enum Sub {
     Restore,
@@ -79,8 +80,8 @@ fn is_go_to(sub: Sub) -> bool
 }
 
 // Whether a subcommand with this Count selects the condition at a place; FFh "the supported and changeable conditions" (document 02, request (iv)). The
-// abort asks it of FFh (`look`), the change of every Count; of a single Count the abort looks at the one place (`one_unfit`). A go to with FFh comes to
-// neither: `every_unfit` aborts it first.
+// abort asks it of FFh (`any_selected`, `any_barred`), the change of every Count; of a single Count the abort looks at the one place (`one_unfit`). A go to
+// with FFh comes to neither: `every_unfit` aborts it first.
 fn selects(sub: Sub, n: Named, place: usize, r: Record) -> bool
     ensures { result ≡ Epc.selects sub n place r }
 {

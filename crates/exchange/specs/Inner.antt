@@ -26,7 +26,7 @@ next_of (Err r) unsaved s = Err r
 
 -- ---- the answer
 
--- Held in place of an older sense; with Nothing, what is held stays.
+-- Held in place of an older sense; with none, what is held stays.
 abbrev pub held_by : Unit → ℕ → Option Failure → Unit
 held_by u host None = u
 held_by u host (Some f) = with_held host (Some f) u

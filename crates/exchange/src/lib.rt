@@ -56,11 +56,9 @@ pub fn next_command(u: Unit, host: u32) -> Asked
     ensures { result ≡ next_outcome u host }
 {
     let ok = unit::unit_ok(u);
-    let out = u.out;
-    let slots = u.slots;
-    let s = unit::slot_of(slots, host);
+    let s = unit::slot_of(u.slots, host);
     let waiting = unit::is_waiting(s);
-    let v = refusals::next_verdict(host, ok, unit::is_out(out), waiting);
+    let v = refusals::next_verdict(host, ok, unit::is_out(u.out), waiting);
     Asked {
         answer: next_of(v, u.unsaved, s),
         unit: next_unless(u, v.is_err() | !waiting, host),
@@ -99,15 +97,14 @@ fn flushed_well(u: Unit, q: Request) -> After
 fn held_if(immed: bool, f: Failure) -> Option<Failure>
     ensures { result ≡ cond immed (Some f) None }
 {
-    if immed { Some(f) } else { None }
+    immed.then_some(f)
 }
 
 // The operation is over and failed: Active, marks as before.
 fn fail(u: Unit, q: Request, flushes: u8) -> After
     ensures { (host : ℕ) → left u host result ≡ failed u host q flushes }
 {
-    let target = q.target;
-    let f = operations::failure_of(target);
+    let f = operations::failure_of(q.target);
     After {
         taken: true,
         power: Power::Active,
@@ -123,19 +120,16 @@ fn fail(u: Unit, q: Request, flushes: u8) -> After
 fn succeed(u: Unit, q: Request) -> After
     ensures { (host : ℕ) → left u host result ≡ succeeded u host q }
 {
-    let target = q.target;
-    let stage = q.stage;
-    let records = u.drive.records;
     After {
         taken: true,
-        power: operations::reach(records, target),
-        stopped: operations::is_stop(target),
+        power: operations::reach(u.drive.records, q.target),
+        stopped: operations::is_stop(q.target),
         unsaved: u.unsaved,
         slot: Slot::Empty,
         held: None,
         answer: Ok(Progress::Ended(operations::report_good(
             q.immed,
-            operations::flushes_of(stage),
+            operations::flushes_of(q.stage),
         ))),
     }
 }
@@ -143,22 +137,20 @@ fn succeed(u: Unit, q: Request) -> After
 fn flush_answered(u: Unit, q: Request, reply: Reply) -> After
     ensures { (host : ℕ) → left u host result ≡ flush_answered u host q reply }
 {
-    let stage = q.stage;
     if operations::is_good(reply) {
         flushed_well(u, q)
     } else {
-        fail(u, q, operations::one_more(operations::flushes_of(stage)))
+        fail(u, q, operations::one_more(operations::flushes_of(q.stage)))
     }
 }
 
 fn last_answered(u: Unit, q: Request, reply: Reply) -> After
     ensures { (host : ℕ) → left u host result ≡ last_answered u host q reply }
 {
-    let stage = q.stage;
     if operations::is_good(reply) {
         succeed(u, q)
     } else {
-        fail(u, q, operations::flushes_of(stage))
+        fail(u, q, operations::flushes_of(q.stage))
     }
 }
 
@@ -177,11 +169,9 @@ fn answered_for(u: Unit, q: Request, reply: Reply) -> After
 fn refuse(u: Unit, r: Refusal) -> After
     ensures { (host : ℕ) → left u host result ≡ record { answer = Err r; unit = u } }
 {
-    let d = u.drive;
-    let power = d.power;
     After {
         taken: false,
-        power,
+        power: u.drive.power,
         stopped: u.stopped,
         unsaved: u.unsaved,
         slot: Slot::Empty,
@@ -244,12 +234,10 @@ pub fn answer(u: Unit, host: u32, reply: Reply) -> Replied
     ensures { result ≡ answer_outcome u host reply }
 {
     let ok = unit::unit_ok(u);
-    let out = u.out;
-    let slots = u.slots;
-    let v = refusals::answer_verdict(host, ok, unit::is_out_for(host, out));
+    let v = refusals::answer_verdict(host, ok, unit::is_out_for(host, u.out));
     leave(
         u,
         host,
-        answer_settled(u, reply, unit::slot_of(slots, host), v),
+        answer_settled(u, reply, unit::slot_of(u.slots, host), v),
     )
 }

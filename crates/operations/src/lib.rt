@@ -44,6 +44,7 @@ pub struct Report {
 }
 
 // What an answer leaves of its operation: more to send, or its end.
+// Stays an enum of its own: More is a state with a name of its own, and not nothing.
 #[derive(Clone, Copy)]
 pub enum Progress {
     More,
@@ -171,6 +172,7 @@ pub fn is_good(reply: Reply) -> bool
 }
 
 // What a failed operation says, by what it was to do: a spindle that does not turn is not ready.
+// Stays a match: a table of the papers, a case for each target.
 pub fn failure_of(t: Target) -> Failure
     ensures { result ≡ failure_of t }
 {

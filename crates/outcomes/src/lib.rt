@@ -9,6 +9,7 @@ ghost use Rattle.outcomes.specs.Settled.{settled};
 use refusals::Refusal;
 use unit::Unit;
 
+// Stays an answer beside the record, not a Result that holds it: the record comes back on a refusal too.
 #[derive(Clone, Copy)]
 pub struct Called {
     pub answer: Result<(), Refusal>,

@@ -24,10 +24,7 @@ fn told_bytes(p: Power, h: Option<Failure>) -> [u8; 18]
 fn told(u: Unit, host: u32) -> [u8; 18]
     ensures { result ≡ told_bytes u.drive.power (held_of u.held host) }
 {
-    let d = u.drive;
-    let power = d.power;
-    let held = u.held;
-    told_bytes(power, unit::held_of(held, host))
+    told_bytes(u.drive.power, unit::held_of(u.held, host))
 }
 
 // REQUEST SENSE, into the lent buffer. A held sense that is told is dropped; nothing else of the record changes.
@@ -35,8 +32,7 @@ pub fn request_sense(u: Unit, host: u32, buffer: &mut [u8]) -> Called
     ensures { (result ≡ (sense_outcome u host buffer.old).called) × (buffer.new ≡ (sense_outcome u host buffer.old).buffer) }
 {
     let ok = unit::unit_ok(u);
-    let out = u.out;
-    let v = refusals::sense_verdict(buffer.len(), host, ok, unit::is_out(out));
+    let v = refusals::sense_verdict(buffer.len(), host, ok, unit::is_out(u.out));
     match v {
         Ok(()) => {
             let bytes = told(u, host);
@@ -53,8 +49,7 @@ pub fn log_page(u: Unit, buffer: &mut [u8]) -> Result<(), Refusal>
 {
     let ok = unit::unit_ok(u);
     refusals::page_verdict(512, buffer.len(), ok)?;
-    let records = u.drive.records;
-    let page = pages::log_page(records);
+    let page = pages::log_page(u.drive.records);
     rows::copy_in(&page, buffer, 0);
     Ok(())
 }
@@ -64,11 +59,9 @@ pub fn new_page(u: Unit, number: u32, buffer: &mut [u8]) -> Result<(), Refusal>
     ensures { (result ≡ (new_page_outcome u number buffer.old).called.answer) × (buffer.new ≡ (new_page_outcome u number buffer.old).buffer) }
 {
     let ok = unit::unit_ok(u);
-    let edition = u.edition;
-    let lacking = published::lacks_page(edition, number);
+    let lacking = published::lacks_page(u.edition, number);
     refusals::new_page_verdict(buffer.len(), ok, lacking)?;
-    let records = u.drive.records;
-    let page = published::descriptor_page(number, records);
+    let page = published::descriptor_page(number, u.drive.records);
     rows::copy_in(&page, buffer, 0);
     Ok(())
 }
@@ -77,8 +70,7 @@ pub fn new_page(u: Unit, number: u32, buffer: &mut [u8]) -> Result<(), Refusal>
 pub fn transition_counts(u: Unit) -> [[u32; 2]; 6]
     ensures { result ≡ counts_handed u }
 {
-    let counts = u.drive.counts;
-    transitions::table_of(counts)
+    transitions::table_of(u.drive.counts)
 }
 
 // The Power Condition Transitions log page, into the lent buffer. The record stays the caller's, unchanged.

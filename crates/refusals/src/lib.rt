@@ -9,7 +9,7 @@ ghost use Rattle.refusals.specs.Verdicts.{rows_of_host, rows_of_record, rows_of_
 use senses::Sense;
 
 // Why a call was refused: document 01's numbers 1 to 10, and document 02's 11, in the order in which they are looked at.
-#[derive(Clone, Copy)]
+#[derive(Clone, Copy, PartialEq, Eq)]
 pub enum Refusal {
     BadLength,
     BadHost,
@@ -24,6 +24,7 @@ pub enum Refusal {
     Aborted,
 }
 
+// Stays a match: a table of the papers, a case for each refusal.
 pub fn number(r: Refusal) -> u32
     ensures { result ≡ number_of r }
 {
@@ -67,7 +68,7 @@ pub fn sense_of(r: Refusal) -> Option<Sense>
 }
 
 // One row of the table.
-fn given_if(applies: bool, r: Refusal) -> Result<(), Refusal>
+fn refused_if(applies: bool, r: Refusal) -> Result<(), Refusal>
     ensures { result ≡ lowest ((applies gives r) ∷ []) }
 {
     if applies { Err(r) } else { Ok(()) }
@@ -77,14 +78,14 @@ fn given_if(applies: bool, r: Refusal) -> Result<(), Refusal>
 pub fn record_verdict(ok: bool) -> Result<(), Refusal>
     ensures { result ≡ lowest (rows_of_record ok) }
 {
-    given_if(!ok, Refusal::BadRecord)
+    refused_if(!ok, Refusal::BadRecord)
 }
 
 // Three rows in their order: those that follow speak only where none before them applies.
 fn first_of(a: bool, x: Refusal, b: bool, y: Refusal, c: bool, z: Refusal) -> Result<(), Refusal>
     ensures { result ≡ lowest ((a gives x) ∷ (b gives y) ∷ (c gives z) ∷ []) }
 {
-    given_if(a, x).and(given_if(b, y)).and(given_if(c, z))
+    refused_if(a, x).and(refused_if(b, y)).and(refused_if(c, z))
 }
 
 // Every call of a host but the answer: numbers 2, 3 and 4.
@@ -119,21 +120,21 @@ pub fn epc_verdict(ok: bool, out: bool, aborted: bool) -> Result<(), Refusal>
 pub fn medium_verdict(host: u32, ok: bool, out: bool, stopped: bool) -> Result<(), Refusal>
     ensures { result ≡ lowest (rows_of_medium host ok out stopped) }
 {
-    host_verdict(host, ok, out).and(given_if(stopped, Refusal::IsStopped))
+    host_verdict(host, ok, out).and(refused_if(stopped, Refusal::IsStopped))
 }
 
 // REQUEST SENSE: numbers 1 to 4.
 pub fn sense_verdict(size: usize, host: u32, ok: bool, out: bool) -> Result<(), Refusal>
     ensures { result ≡ lowest (rows_of_sense size host ok out) }
 {
-    given_if(size != 18, Refusal::BadLength).and(host_verdict(host, ok, out))
+    refused_if(size != 18, Refusal::BadLength).and(host_verdict(host, ok, out))
 }
 
 // The log page and page 1Ah, which are so many bytes: numbers 1 and 3.
 pub fn page_verdict(due: usize, size: usize, ok: bool) -> Result<(), Refusal>
     ensures { result ≡ lowest (rows_of_page due size ok) }
 {
-    given_if(size != due, Refusal::BadLength).and(record_verdict(ok))
+    refused_if(size != due, Refusal::BadLength).and(record_verdict(ok))
 }
 
 // A new page, which is 512 bytes: numbers 1, 3 and 11.
@@ -154,7 +155,7 @@ pub fn new_page_verdict(size: usize, ok: bool, lacking: bool) -> Result<(), Refu
 pub fn reader_verdict(size: usize) -> Result<(), Refusal>
     ensures { result ≡ lowest (rows_of_reader size) }
 {
-    given_if(size != 512, Refusal::BadLength)
+    refused_if(size != 512, Refusal::BadLength)
 }
 
 // A CDB: numbers 6, 7 and 8.
@@ -183,7 +184,7 @@ pub fn start_stop_verdict(
 ) -> Result<(), Refusal>
     ensures { result ≡ lowest (rows_of_start_stop size host ok out own opcode listed) }
 {
-    let before = given_if(size != 6, Refusal::BadLength).and(host_verdict(host, ok, out));
+    let before = refused_if(size != 6, Refusal::BadLength).and(host_verdict(host, ok, out));
     before.and(cdb_verdict(own, opcode, listed))
 }
 
@@ -191,7 +192,7 @@ pub fn start_stop_verdict(
 pub fn next_verdict(host: u32, ok: bool, out: bool, waiting: bool) -> Result<(), Refusal>
     ensures { result ≡ lowest (rows_of_next host ok out waiting) }
 {
-    host_verdict(host, ok, out).and(given_if(!waiting, Refusal::HasNone))
+    host_verdict(host, ok, out).and(refused_if(!waiting, Refusal::HasNone))
 }
 
 // The answer: numbers 2, 3 and 5.

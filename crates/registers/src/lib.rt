@@ -16,6 +16,7 @@ pub struct Registers {
 }
 
 // What Count names.
+// Stays an enum with a case for what is not listed: document 01's match over the codes and its refused ranges has that case.
 #[derive(Clone, Copy, PartialEq, Eq)]
 pub enum Named {
     One(Condition),
@@ -52,6 +53,7 @@ pub fn named_by(count: u8) -> Named
 }
 
 // The Count code that names a condition.
+// Stays a match: a table of the papers, a case for each condition.
 pub fn count_code(c: Condition) -> u8
     ensures { result ≡ count_code c }
 {

@@ -17,6 +17,7 @@ pub enum Target {
 }
 
 // How far it is: it sends no flush, or that many of its flushes have been answered (held at 255).
+// Stays an enum of its own: Straight is a state with a name of its own, and not nothing.
 #[derive(Clone, Copy, PartialEq, Eq)]
 pub enum Stage {
     Straight,

@@ -1,10 +1,10 @@
-// Rows: what holds of any list that is read with its places, the one function that copies bytes, and the choice between two values.
+// Rows: what holds of any list that is read with its places, the function that fills a lent buffer, and the choice between two values.
 #![tactic(auto)]
 
 ghost use Rattle.std.specs.Prelude.{cond, ◌+◌, ◌≤◌, ◌≡◌, length};
 ghost use Rattle.std.proofs.Math.Seq.{paste};
 
-// Writes `src` into `dst` from the place `at` on: the only function of the layer that writes behind a reference.
+// Writes `src` into `dst` from the place `at` on. Behind a reference the layer writes by it and by `Faults::add` alone.
 // Stays beside the slice's own method: what its callers promise says `paste`, which their proofs join page by page.
 pub fn copy_in(src: &[u8], dst: &mut [u8], at: usize)
     requires { at + length src.now ≤ length dst.old }

@@ -49,6 +49,7 @@ fn count_in(t: [[u32; 2]; 6], row: usize, column: usize) -> [[u32; 2]; 6]
     next
 }
 
+// Stays a match: a table of the papers, a case for each cause.
 fn column_by(why: Cause) -> usize
     ensures { (result ≡ column_by why) × (result < 2) }
 {

@@ -54,7 +54,7 @@ slot_well_formed rs (Waiting q) = request_well_formed rs q.target q.stage
 abbrev pub host_well_formed : List Record → ℕ → Slot → Bool
 host_well_formed rs host s = slot_well_formed rs s
 
--- "hosts 0 to 3". That "a held sense is a failure's", the type `Held` keeps.
+-- "hosts 0 to 3". That "a held sense is a failure's", the field's type keeps: an `Option` of a failure.
 unfoldable pub hosts_well_formed : List Record → List Slot → List (Option Failure) → Bool
 hosts_well_formed rs slots helds =
     eqb (length slots) 4 && eqb (length helds) 4 && every_at (host_well_formed rs) 0 slots

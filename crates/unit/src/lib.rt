@@ -1,4 +1,4 @@
-// The unit's record: its types, how they are read and built, when a record is well formed, a new unit, and the sense of a failure. No call stands here.
+// The unit's record: its types, how they are read and built, when a record is well formed, and a new unit. No call stands here.
 #![tactic(auto)]
 
 ghost use Rattle.std.specs.Prelude.{cond, ◌≡◌, set, get_or, replicate, None};
@@ -8,6 +8,7 @@ ghost use Rattle.unit.specs.declared.Slot.TheVariants.{Empty};
 use drive::{Drive, Edition, Made, Millis, Record, Setting, Tenths};
 use requests::{Failure, Request};
 
+// Stays an enum of its own: document 01 names the form, a waiting case that holds a request.
 #[derive(Clone, Copy)]
 pub enum Slot {
     Empty,

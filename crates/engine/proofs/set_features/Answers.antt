@@ -17,7 +17,7 @@ returns-in-Ok c = let told = rw (
   c.is_out.ensures,
   c.unit_ok-ok.ensures,
 ) at (sym c.epc_verdict-v.ensures ∙ c.in-Ok.is) in
-    rw told (same_record (Ok tt) c.epc_effect-changed.ensures)
+    rw (told, c.in-Ok.is) (same_record (Ok tt) c.epc_effect-unit.ensures)
 
 pub returns-in-Err : goal.returns-in-Err
 unfolding epc_outcome
@@ -26,4 +26,4 @@ returns-in-Err c = let told = rw (
   c.is_out.ensures,
   c.unit_ok-ok.ensures,
 ) at (sym c.epc_verdict-v.ensures ∙ c.in-Err.is) in
-    rw told (same_record _ c.epc_refused-kept.ensures)
+    rw told (same_record _ c.epc_refused-unit.ensures)

@@ -8,9 +8,9 @@ pub returns : goal.returns
 returns c = rw (
   c.and-2.ensures,
   c.and.ensures,
-  c.given_if-3.ensures,
-  c.given_if-2.ensures,
-  c.given_if.ensures,
+  c.refused_if-3.ensures,
+  c.refused_if-2.ensures,
+  c.refused_if.ensures,
   lowest_append ((c.args.a gives c.args.x) ∷ []) ((c.args.b gives c.args.y) ∷ []),
 )
     (lowest_append _ _)

@@ -3,4 +3,4 @@ use Rattle.refusals.proofs.Lowest.{lowest_append}
 use Rattle.refusals.proofs.page_verdict.Goals as goal
 
 pub returns : goal.returns
-returns c = rw (c.and.ensures, c.record_verdict.ensures, c.given_if.ensures) (lowest_append _ _)
+returns c = rw (c.and.ensures, c.record_verdict.ensures, c.refused_if.ensures) (lowest_append _ _)

@@ -10,7 +10,7 @@ returns c = rw (
   c.cdb_verdict.ensures,
   c.and-before.ensures,
   c.host_verdict.ensures,
-  c.given_if.ensures,
+  c.refused_if.ensures,
   lowest_append (bad_length_row c.args.size 6 ∷ []) _,
 )
     (lowest_append _ _)

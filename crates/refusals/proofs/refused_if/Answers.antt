@@ -5,7 +5,7 @@ use mathlib.Core.Bool.{Bool, true, false}
 use mathlib.Core.List.{[], ◌∷◌}
 use Rattle.refusals.specs.Refusals.{◌gives◌, lowest}
 use Rattle.refusals.specs.declared.Refusal.{Refusal}
-use Rattle.refusals.proofs.given_if.Goals as goal
+use Rattle.refusals.proofs.refused_if.Goals as goal
 
 given : (applies : Bool) (r : Refusal) → applies ≡ true → Err r ≡ lowest ((applies gives r) ∷ [])
 unfolding lowest
