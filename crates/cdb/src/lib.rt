@@ -14,7 +14,7 @@ use requests::{Request, Stage, Target};
 pub fn byte_at(cdb: &[u8], k: usize) -> u8
     ensures { result ≡ byte k cdb.now }
 {
-    if k < cdb.len() { cdb[k] } else { 0 }
+    cdb.get(k).copied().unwrap_or(0)
 }
 
 // Byte 1 bit 0.
@@ -121,11 +121,8 @@ fn fits(records: [Record; 5], w: Option<Target>) -> bool
 {
     match w {
         None => false,
-        Some(t) => match t {
-            Target::Stop => true,
-            Target::Start => true,
-            Target::GoTo(c) => requests::supported_in(records, c),
-        },
+        Some(Target::Stop | Target::Start) => true,
+        Some(Target::GoTo(c)) => requests::supported_in(records, c),
     }
 }
 

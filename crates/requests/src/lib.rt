@@ -63,13 +63,11 @@ pub fn supported_in(records: [Record; 5], c: Condition) -> bool
 pub fn request_ok(records: [Record; 5], target: Target, stage: Stage) -> bool
     ensures { result ≡ request_well_formed records target stage }
 {
-    match target {
-        Target::Stop => true,
-        Target::Start => match stage {
-            Stage::Straight => true,
-            Stage::Flushing(_) => false,
-        },
-        Target::GoTo(c) => supported_in(records, c),
+    match (target, stage) {
+        (Target::Stop, _) => true,
+        (Target::Start, Stage::Straight) => true,
+        (Target::Start, Stage::Flushing(_)) => false,
+        (Target::GoTo(c), _) => supported_in(records, c),
     }
 }
 
