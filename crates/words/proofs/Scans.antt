@@ -3,13 +3,13 @@ use mathlib.Core.Path.{◌≡◌, refl, sym, ap, ◌∙◌}
 use mathlib.Core.Bool.{Bool, true, false, cond, not}
 use mathlib.Core.List.{List, [], ◌∷◌}
 use Prim.Native.Char.{code}
-use Prim.Native.Nat.{ℕ, suc, ◌+◌, ◌≤◌}
+use Prim.Native.Nat.{ℕ, suc, ◌+◌, ◌≤◌, max}
 use native.Mathlib.Numerals.{one-add}
 use native.Mathlib.Omega.{arith}
 use borrow.Author.Tests.{ltb-false}
 use lib.Dec.{eqb, ltb}
 use lib.ListN.{length, drop, length-drop}
-use Rattle.std.proofs.Common.{Option, Some, None}
+use Rattle.std.proofs.Common.{Option, Some, None, MatchOption}
 use Rattle.std.specs.List.{position_or_len}
 use Rattle.std.specs.Option.{unwrap_or}
 use Rattle.std.proofs.lemmas.List.Recursion.{is_position_or_len}
@@ -61,3 +61,9 @@ module _ {f : List ℕ → ℕ} {stops : ℕ → Bool} (s : Scan f stops) where
   -- a scan that starts within the text ends within it
   pub scan_within : (l : List ℕ) (i : ℕ) → i ≤ length l → i + f (drop i l) ≤ length l
   scan_within l i h = let rest = rw length-drop at (scan_length (drop i l)) in omega arith
+
+-- a place found behind another is moved by it, and the end stands where it is
+pub moved : (l : List ℕ) (from : ℕ) (r : Option ℕ) (z : ℕ) → MatchOption r (z ≡ max from (length l)) (λ x. z ≡ from + x)
+    → z ≡ from + unwrap_or r (length (drop from l))
+moved l from None z h = rw (h, length-drop) (omega arith)
+moved l from (Some x) z h = h

@@ -1,20 +1,35 @@
 -- A word is read digit by digit: the value so far and the digits that are left make the value, which after i digits is below 16^i.
-use mathlib.Core.Path.{◌≡◌, refl}
+use mathlib.Core.Path.{◌≡◌, refl, sym, ◌∙◌}
 use mathlib.Core.Bool.{Bool, true, false, cond, ◌&&◌, and-false, and-eq-true_iff}
 use mathlib.Core.List.{List}
 use Prim.Native.Nat.{ℕ, ◌+◌, ◌*◌, ◌^◌, ◌<◌, ◌≤◌}
 use native.Mathlib.Numerals.{add-one}
 use native.Mathlib.Omega.{arith}
 use borrow.Author.Tests.{leb-true, ltb-true, ltb-false, lt-ltb, le-ltb, le-leb, lt-leb}
-use lib.Dec.{leb}
+use lib.Dec.{eqb, leb, ltb}
 use lib.ListN.{length, get_or, drop, drop_of_length-le}
 use lib.Pow.{pow-add, pow_mono}
 use lib.Seq.{drop-cons}
-use Rattle.std.proofs.Common.{Option, Some, None, IfSome, MatchOption}
+use Rattle.std.proofs.Common.{Option, Some, None, IfSome, MatchOption, is_le, Less, Equal, Greater}
+use Rattle.std.specs.Ordering.{nat_cmp}
+use Rattle.std.proofs.lemmas.Bool.{eqb-true, eqb-false}
 use Rattle.words.specs.Numbers.{is_between, digit_of, is_digit, digit_in, are_digits, value_after, value_of, is_number, word_number}
 
 pub in_range : (first last b : ℕ) → is_between first last b ≡ true → (first ≤ b) × (b ≤ last)
 in_range first last b e = let both = (and-eq-true_iff (leb first b) (leb b last)).0 e in (leb-true _ _ both.0, leb-true _ _ both.1)
+
+-- the library's order of two numbers, at most equal, is the test of the definition
+at_most_told : (a b : ℕ) → is_le (nat_cmp a b) ≡ leb a b
+at_most_told a b = on (ltb a b) refl (eqb a b) refl
+  where
+    on : (t : Bool) → ltb a b ≡ t → (e : Bool) → eqb a b ≡ e → is_le (cond t Less (cond e Equal Greater)) ≡ leb a b
+    on true h e k = let below = ltb-true a b h in sym (le-leb a b (omega arith))
+    on false h true k = let same = eqb-true a b k in sym (le-leb a b (omega arith))
+    on false h false k = let above = ltb-false a b h in let other = eqb-false a b k in sym (lt-leb a b (omega arith))
+
+-- what `contains` tells of a length
+pub within_told : (n : ℕ) {t : Bool} (r : Bool) → r ≡ is_le (nat_cmp 1 n) && is_le (nat_cmp n 8) → r ≡ t → is_between 1 8 n ≡ t
+within_told n r e f = sym (rw (at_most_told 1 n, at_most_told n 8) at e) ∙ f
 
 -- ---- one digit
 

@@ -45,7 +45,7 @@ pub fn append(line: &mut [u8], len: usize, more: &[u8]) -> usize
 fn is_blank(b: u8) -> bool
     ensures { result ≡ is_blank b }
 {
-    (b == b' ') | (b == b'\t')
+    matches!(b, b' ' | b'\t')
 }
 
 // Whether a byte belongs to no word.
@@ -59,10 +59,10 @@ fn ends_word(b: u8) -> bool
 pub fn line_end(text: &[u8], from: usize) -> usize
     ensures { result ≡ from + before_feed (drop from text.now) }
 {
-    match text.iter().skip(from).position(|b| *b == b'\n') {
-        Some(n) => from + n,
-        None => from.max(text.len()),
-    }
+    text.iter()
+        .skip(from)
+        .position(|b| *b == b'\n')
+        .map_or(from.max(text.len()), |n| from + n)
 }
 
 // How many blanks a text starts with.
@@ -103,10 +103,10 @@ pub fn after_words(line: &[u8], k: usize) -> &[u8]
 {
     let mut rest = line;
     for _ in 0..k {
-        match first_word(rest) {
-            Some((_, others)) => rest = others,
-            None => return rest,
-        }
+        let Some((_, others)) = first_word(rest) else {
+            return rest;
+        };
+        rest = others;
     }
     rest
 }
@@ -157,7 +157,7 @@ pub fn hex(w: &[u8], top: u32) -> Option<u32>
     ensures { result ≡ word_number top w.now }
 {
     let n = w.len();
-    if !((1 <= n) & (n <= 8)) {
+    if !(1..=8).contains(&n) {
         return None;
     }
     let mut value: u64 = 0;

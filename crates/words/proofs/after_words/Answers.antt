@@ -5,8 +5,8 @@ use Rattle.words.specs.Words.{words}
 use Rattle.words.proofs.Cuts.{none_after, others_after, tail_of}
 use Rattle.words.proofs.after_words.Goals as goal
 
-pub returns-in-None-clause-others : goal.returns-in-None-clause-others
-returns-in-None-clause-others c = let none = c.in-None.ensures.cases in
+pub returns-in_default-clause-others : goal.returns-in_default-clause-others
+returns-in_default-clause-others c = let none = c.in_default.ensures.cases in
     none ∙ sym (none_after (words c.args.line.now) c.loop.counter c.args.k (omega arith) (sym c.loop.invariant.0 ∙ none))
 
 pub loop-preserved : goal.loop-preserved

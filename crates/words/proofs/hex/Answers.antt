@@ -3,15 +3,15 @@
 use mathlib.Core.Path.{refl, sym, ◌∙◌}
 use native.Mathlib.Omega.{arith}
 use lib.ListN.{length, get_or}
-use Rattle.words.proofs.Values.{in_range, read_digit, bad_digit, good_digit, one_more_lem, no_more}
+use Rattle.words.proofs.Values.{in_range, within_told, read_digit, bad_digit, good_digit, one_more_lem, no_more}
 use Rattle.words.proofs.Values.{below_more, below_all, not_length, not_digits, too_large, spelled}
 use Rattle.words.proofs.hex.Goals as goal
 
-pub returns-then-not-n : goal.returns-then-not-n
-returns-then-not-n c = sym (not_length c.args.top c.args.w.now c.if-not-n.true)
+pub returns-then-not-contains : goal.returns-then-not-contains
+returns-then-not-contains c = sym (not_length c.args.top c.args.w.now (within_told (length c.args.w.now) c.contains.result (rw (c.new.ensures.start, c.new.ensures.end, c.new.ensures.exhausted) at c.contains.ensures.value) c.if-not-contains.true))
 
 pub loop-b-init : goal.loop-b-init
-loop-b-init c = ((in_range 1 8 (length c.args.w.now) c.if-not-n.false).1, omega arith, refl, refl)
+loop-b-init c = ((in_range 1 8 (length c.args.w.now) (within_told (length c.args.w.now) c.contains.result (rw (c.new.ensures.start, c.new.ensures.end, c.new.ensures.exhausted) at c.contains.ensures.value) c.if-not-contains.false)).1, omega arith, refl, refl)
 
 pub overflow_mul-value : goal.overflow_mul-value
 overflow_mul-value c = let small = below_all c.loop-b.value c.loop-b.b-index c.loop-b.invariant.1 (omega arith) in omega (arith, small)
@@ -44,4 +44,4 @@ returns-then-value-top c = let done = no_more c.args.w.now c.loop-b.value c.loop
 pub returns : goal.returns
 returns c = let done = no_more c.args.w.now c.loop-b.value c.loop-b.b-index (omega arith) in
     let all = c.loop-b.invariant.3 ∙ done.1 in
-    sym (rw all at (spelled c.args.top c.args.w.now c.if-not-n.false (c.loop-b.invariant.2 ∙ done.0) (rw all c.if-value-top.false)))
+    sym (rw all at (spelled c.args.top c.args.w.now (within_told (length c.args.w.now) c.contains.result (rw (c.new.ensures.start, c.new.ensures.end, c.new.ensures.exhausted) at c.contains.ensures.value) c.if-not-contains.false) (c.loop-b.invariant.2 ∙ done.0) (rw all c.if-value-top.false)))
