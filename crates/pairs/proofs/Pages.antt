@@ -1,6 +1,7 @@
 -- Pair by pair: the pairs read so far and the words that are left make the page. It does not matter whether they are set on the page or on
 -- a longer one that is cut after, since every pair's word lies on the page.
 use mathlib.Core.Path.{◌≡◌, refl, sym, ap, ◌∙◌}
+use mathlib.Core.Bool.{Bool, true, false, cond, true≢false}
 use mathlib.Core.List.{List, [], ◌∷◌}
 use Prim.Native.Char.{code}
 use Prim.Native.Nat.{ℕ, suc, ◌+◌, ◌*◌, ◌/◌, ◌%◌, ◌<◌, ◌≤◌}
@@ -9,9 +10,11 @@ use native.Mathlib.Numerals.{add-one}
 use native.Mathlib.Omega.{arith}
 use borrow.Author.Tests.{ne_eqb}
 use lib.Dec.{eqb}
-use lib.ListN.{length, drop, length-drop, drop_of_length-le, set, take}
+use lib.ListN.{length, drop, set, take}
 use lib.Seq.{drop-drop, paste, paste-suc, paste-zero, take-set-lt}
-use Rattle.std.proofs.Common.{Option, Some, None, IfSome}
+use denote.Ref.{Bor}
+use Rattle.std.proofs.Common.{Option, Some, None, IfSome, MatchOption}
+use Rattle.std.specs.Cmp.Lexicographic.{pointwise}
 use Rattle.std.specs.Option.{unwrap_or}
 use Rattle.asked.proofs.Lengths.{take-replicate}
 use Rattle.words.specs.Numbers.{word_number}
@@ -24,17 +27,29 @@ pub equals : Scan before_equals (λ b. eqb b (code "="))
 unfolding before_equals
 equals = record { none = refl; more = λ b bs. refl }
 
--- ---- behind a sign, which is not there where nothing is left
+-- ---- behind a sign, or where there is none: nothing is left there
 
-pub behind_sign : (w : List ℕ) (n b : ℕ) (rest : List ℕ) → drop n w ≡ b ∷ rest → rest ≡ drop (suc n) w
-behind_sign w n b rest e = rw (← add-one, ← drop-drop, e)
+starts : List ℕ → Bool
+starts l = pointwise eqb (take 1 l) (code "=" ∷ [])
 
-pub behind_end : (w : List ℕ) (n : ℕ) → length (drop n w) ≡ 0 → drop n w ≡ drop (suc n) w
-behind_end w n e =
-    let short = rw length-drop at e in
-    let none : drop n w ≡ [] = drop_of_length-le w (omega arith) in
-    let none_more : drop (suc n) w ≡ [] = drop_of_length-le w {i = suc n} (omega arith) in
-    none ∙ sym none_more
+at_end : (w : List ℕ) → starts (drop (before_equals w) w) ≡ false → drop (before_equals w) w ≡ drop (suc (before_equals w)) w
+unfolding before_equals starts
+at_end [] h = refl
+at_end (b ∷ bs) h = on (at_end bs) (eqb b (code "=")) refl h
+  where
+    on : (starts (drop (before_equals bs) bs) ≡ false → drop (before_equals bs) bs ≡ drop (suc (before_equals bs)) bs)
+        → (t : Bool) → eqb b (code "=") ≡ t → starts (drop (cond t 0 (suc (before_equals bs))) (b ∷ bs)) ≡ false
+        → drop (cond t 0 (suc (before_equals bs))) (b ∷ bs) ≡ drop (suc (cond t 0 (suc (before_equals bs)))) (b ∷ bs)
+    on below true e k = absurd (true≢false (rw e at k))
+    on below false e k = below k
+
+pub behind_sign : (w : List ℕ) (r : Option (Bor (List ℕ))) (d : Bor (List ℕ)) → d.now ≡ drop (before_equals w) w
+    → MatchOption r (pointwise eqb (take 1 d.now) (code "=" ∷ []) ≡ false)
+    (λ x. (pointwise eqb (take 1 d.now) (code "=" ∷ []) ≡ true) × (x.now ≡ drop 1 d.now) × (length x.now + 1 ≡ length d.now))
+    → (unwrap_or r d).now ≡ drop (suc (before_equals w)) w
+unfolding starts
+behind_sign w None d e h = e ∙ at_end w (rw e at h)
+behind_sign w (Some x) d e h = h.1 ∙ rw (e, drop-drop, add-one) refl
 
 -- ---- the bounds of a pair
 

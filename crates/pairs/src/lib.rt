@@ -35,10 +35,7 @@ fn pair_in(w: &[u8]) -> Pair
     ensures { (result ≡ pair_in w.now) × (unwrap_or result.place 0 < 256) × (unwrap_or result.value 0 < 65536) }
 {
     let (place, rest) = w.split_at(equals_at(w));
-    let value = match rest.split_first() {
-        Some((_, value)) => value,
-        None => rest,
-    };
+    let value = rest.strip_prefix(b"=").unwrap_or(rest);
     Pair {
         place: words::hex(place, 0xFF),
         value: words::hex(value, 0xFFFF),
@@ -56,7 +53,7 @@ fn is_pair(w: &[u8]) -> bool
 fn are_pairs(line: &[u8], k: usize) -> bool
     ensures { result ≡ are_pairs (drop k (words line.now)) }
 {
-    Words(words::after_words(line, k)).all(|w| is_pair(w))
+    Words(line).skip(k).all(|w| is_pair(w))
 }
 
 // As many zeros as the longest page has.
