@@ -168,8 +168,8 @@ fn cdb_in(line: &[u8]) -> Option<CdbBytes>
     if len > 40 {
         return None;
     }
-    for i in 0..len {
-        bytes[i] = words::byte_at(line, i + 2)?;
+    for (i, b) in bytes[..len].iter_mut().enumerate() {
+        *b = words::byte_at(line, i + 2)?;
     }
     Some(CdbBytes { bytes, len })
 }

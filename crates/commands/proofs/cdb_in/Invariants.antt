@@ -7,5 +7,5 @@ use Rattle.commands.proofs.cdb_in.Given as goal
 
 abbrev pub invariant-loop-i : goal.invariant-loop-i
 invariant-loop-i l = (is_cdb l.line ≡ are_bytes (drop l.i (byte_words l.line)))
-    × (values (byte_words l.line) ≡ take l.i l.bytes ++ values (drop l.i (byte_words l.line)))
-    × (length l.bytes ≡ 40)
+    × (values (byte_words l.line) ≡ take l.i l.b-items ++ values (drop l.i (byte_words l.line)))
+    × (length l.b-items ≡ l.len)
