@@ -56,19 +56,11 @@ fn are_pairs(line: &[u8], k: usize) -> bool
     Words(line).skip(k).all(|w| is_pair(w))
 }
 
-// As many zeros as the longest page has.
-#[tactic(auto, unfolding(crate::specs::Pairs::zeros))]
-fn blank() -> [u8; 1024]
-    ensures { result ≡ zeros 0x400 }
-{
-    [0u8; 1024]
-}
-
 // What the pairs from word k on make of the longest page.
 fn read_pairs(line: &[u8], k: usize) -> [u8; 1024]
     ensures { result ≡ with_pairs (zeros 0x400) (drop k (words line.now)) }
 {
-    let mut bytes = blank();
+    let mut bytes = [0u8; 1024];
     for w in Words(words::after_words(line, k)) {
         let p = pair_in(w);
         let place = 2 * p.place.unwrap_or(0) as usize;
@@ -87,7 +79,7 @@ pub fn page_of(text: &[u8], k: usize, len: u32) -> LinePage
     let bytes = if len == 512 {
         read_pairs(&text[..end], k)
     } else {
-        blank()
+        [0u8; 1024]
     };
     LinePage { bytes, len }
 }

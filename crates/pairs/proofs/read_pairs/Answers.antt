@@ -4,12 +4,13 @@ use Prim.Native.Nat.{◌*◌, ◌+◌, ◌-◌}
 use native.Mathlib.Omega.{arith}
 use Rattle.std.proofs.Common.{rules}
 use Rattle.std.proofs.lemmas.Slice.{put_mid-paste}
-use Rattle.pairs.specs.Pairs.{with_pairs}
+use Rattle.pairs.specs.Pairs.{with_pairs, zeros}
 use Rattle.pairs.proofs.Pages.{one_more_lem}
 use Rattle.pairs.proofs.read_pairs.Goals as goal
 
 pub loop-w-init : goal.loop-w-init
-loop-w-init c = rw (c.blank-bytes.ensures, c.into_iter-w-iterator.ensures.into_iter_gives, c.after_words.ensures.others)
+unfolding zeros
+loop-w-init c = rw (c.into_iter-w-iterator.ensures.into_iter_gives, c.after_words.ensures.others)
 
 pub loop-w-preserved : goal.loop-w-preserved
 loop-w-preserved c =
