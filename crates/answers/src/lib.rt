@@ -75,16 +75,15 @@ fn plain(u: Unit, call: PlainCall) -> Told
     ensures { (result.unit ≡ (plain_outcome u call).unit) × (said result.text ≡ cut (called_text (plain_outcome u call).answer)) }
 {
     let c = called_by(u, call);
-    let unit = c.unit;
-    let answer = c.answer;
     Told {
-        unit,
-        text: phrases::called(answer),
+        unit: c.unit,
+        text: phrases::called(c.answer),
     }
 }
 
 fn start_stop(u: Unit, host: u32, text: &[u8]) -> Told
-    ensures { (result.unit ≡ (start_stop_outcome u host (cdb_in (line_in text.now))).unit) × (said result.text ≡ cut (accepted_text (start_stop_outcome u host (cdb_in (line_in text.now))).answer)) }
+    ensures { (result.unit ≡ (start_stop_outcome u host (cdb_in (line_in text.now))).unit)
+        × (said result.text ≡ cut (accepted_text (start_stop_outcome u host (cdb_in (line_in text.now))).answer)) }
 {
     let s = match commands::cdb(text) {
         Some(cdb) => power::start_stop_unit(u, host, &cdb.bytes[..cdb.len]),
@@ -100,11 +99,9 @@ fn next(u: Unit, host: u32) -> Told
     ensures { (result.unit ≡ (next_outcome u host).unit) × (said result.text ≡ cut (sent_text (next_outcome u host).answer)) }
 {
     let a = power::next_command(u, host);
-    let unit = a.unit;
-    let answer = a.answer;
     Told {
-        unit,
-        text: phrases::sent(answer),
+        unit: a.unit,
+        text: phrases::sent(a.answer),
     }
 }
 
@@ -112,11 +109,9 @@ fn answer(u: Unit, host: u32, reply: Reply) -> Told
     ensures { (result.unit ≡ (answer_outcome u host reply).unit) × (said result.text ≡ cut (progress_text (answer_outcome u host reply).answer)) }
 {
     let a = power::answer(u, host, reply);
-    let unit = a.unit;
-    let progress = a.answer;
     Told {
-        unit,
-        text: phrases::progressed(progress),
+        unit: a.unit,
+        text: phrases::progressed(a.answer),
     }
 }
 
@@ -146,7 +141,8 @@ fn unwritten() -> [u8; 1024]
 }
 
 fn sense(u: Unit, host: u32, len: u32, out: &mut Sheet<'_>) -> Unit
-    ensures { (result ≡ (filled_response (sense_outcome u host (unfilled len))).unit) × (written out.new ≡ wrote_all (written out.old) (filled_response (sense_outcome u host (unfilled len))).pieces) }
+    ensures { (result ≡ (filled_response (sense_outcome u host (unfilled len))).unit)
+        × (written out.new ≡ wrote_all (written out.old) (filled_response (sense_outcome u host (unfilled len))).pieces) }
 {
     let mut buffer = unwritten();
     let n = asked::buffer_len(len);
@@ -167,7 +163,8 @@ fn read_page(u: Unit, page: Page, buffer: &mut [u8]) -> Result<(), Refusal>
 
 // Reading a page changes no record.
 fn log(u: Unit, page: Page, len: u32, out: &mut Sheet<'_>) -> Unit
-    ensures { (result ≡ (filled_response (page_outcome page u (unfilled len))).unit) × (written out.new ≡ wrote_all (written out.old) (filled_response (page_outcome page u (unfilled len))).pieces) }
+    ensures { (result ≡ (filled_response (page_outcome page u (unfilled len))).unit)
+        × (written out.new ≡ wrote_all (written out.old) (filled_response (page_outcome page u (unfilled len))).pieces) }
 {
     let mut buffer = unwritten();
     let n = asked::buffer_len(len);
@@ -220,45 +217,34 @@ fn replaced_by(c: Called, u: Unit) -> Unit
 fn maker_of(r: Record) -> Made
     ensures { result ≡ maker_of r }
 {
-    let recovery = r.recovery;
-    let default = r.default;
     Made {
         supported: r.supported,
         saveable: r.saveable,
         changeable: r.changeable,
-        recovery,
-        default,
+        recovery: r.recovery,
+        default: r.default,
     }
 }
 
 fn makers_of(records: [Record; 5]) -> [Made; 5]
     ensures { result ≡ map maker_of records }
 {
-    [
-        maker_of(records[0]),
-        maker_of(records[1]),
-        maker_of(records[2]),
-        maker_of(records[3]),
-        maker_of(records[4]),
-    ]
+    records.map(maker_of)
 }
 
 fn as_planned(planned: Unit) -> Called
     ensures { result ≡ planned_outcome planned }
 {
-    let edition = planned.edition;
-    let records = planned.drive.records;
-    power::manufacture(edition, makers_of(records))
+    power::manufacture(planned.edition, makers_of(planned.drive.records))
 }
 
 fn made_by(u: Unit, planned: Unit) -> Told
     ensures { (result.unit ≡ replaced_by (planned_outcome planned) u) × (said result.text ≡ cut (called_text (planned_outcome planned).answer)) }
 {
     let c = as_planned(planned);
-    let answer = c.answer;
     Told {
         unit: replaced_by(c, u),
-        text: phrases::called(answer),
+        text: phrases::called(c.answer),
     }
 }
 

@@ -1,4 +1,5 @@
 // What is found on a page that another maker wrote: the calls made over the face, and the lines that they print.
+// Put piece by piece, not by Display and `write!`: `write!` promises what it wrote only where it answers Ok, and no clause of std says that it does.
 #![tactic(auto, using(digits::proofs::Digits::one_by_one))]
 
 ghost use Rattle.std.specs.Prelude.{map, ◌≡◌};
@@ -62,9 +63,7 @@ pub fn put_faults(len: u32, text: &[u8], out: &mut Sheet<'_>)
     ensures { written out.new ≡ wrote_all (written out.old) (faults_pieces len text.now) }
 {
     let page = pairs::page_of(text, 2, len);
-    let bytes = page.bytes;
-    let n = page.len;
-    put_checked(power::page_faults(&bytes[..n]), out);
+    put_checked(power::page_faults(&page.bytes[..page.len]), out);
 }
 
 // ---- record
@@ -84,7 +83,5 @@ pub fn put_record(c: Condition, len: u32, text: &[u8], out: &mut Sheet<'_>)
     ensures { written out.new ≡ wrote_all (written out.old) (record_pieces c len text.now) }
 {
     let page = pairs::page_of(text, 3, len);
-    let bytes = page.bytes;
-    let n = page.len;
-    out.put_line(found(power::page_record(&bytes[..n], c)));
+    out.put_line(found(power::page_record(&page.bytes[..page.len], c)));
 }

@@ -10,6 +10,7 @@ use std::rt::{Env, Files};
 use std::{fs, io};
 
 // Reads until the buffer is full, the input ends or a read fails, and answers how many bytes came.
+// Stays a `while`: std's read_exact and read_to_end say little after an error, and how many bytes came is needed.
 fn read_full(reader: &mut impl Read, page: &mut [u8; 4096]) -> usize
     ensures { result ≤ length page.new }
 {
@@ -46,17 +47,16 @@ fn complain(errors: &impl Print, what: &[u8], with: &[u8]) {
 }
 
 // How many arguments there are, the program's own name among them.
+// Stays here and in replay: a library's public function owes a promise, and no clause can say what the environment hands over.
 fn argument_count(rt: &impl Env) -> usize {
     let mut first = [0u8; 1];
-    for i in 0..usize::MAX {
-        if let Err(FillError::NotPresent) = rt.arg(i, &mut first) {
-            return i;
-        }
-    }
-    usize::MAX
+    (0..usize::MAX)
+        .find(|i| matches!(rt.arg(*i, &mut first), Err(FillError::NotPresent)))
+        .unwrap_or(usize::MAX)
 }
 
 // A name that is not UTF-8 cannot be opened: a path of std is text.
+// Stays here and in replay: a library's public function owes a promise, and no clause can say what the environment hands over.
 fn open<R: Files>(rt: &R, name: &[u8]) -> Option<R::File> {
     let path = str::from_utf8(name).ok()?;
     fs::open(rt, path).ok()

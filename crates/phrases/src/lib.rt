@@ -1,10 +1,12 @@
 // What is said of each answer of a call.
+// Put piece by piece, not by Display and `write!`: `write!` promises what it wrote only where it answers Ok, and no clause of std says that it does.
 #![tactic(auto, using(digits::proofs::Digits::one_by_one))]
 
 ghost use Rattle.std.specs.Prelude.{◌++◌, ◌≡◌};
 ghost use Rattle.digits.specs.Texts.{said, cut};
 ghost use Rattle.phrases.specs.Phrases;
-ghost use Rattle.phrases.specs.Phrases.{slashed_text, refused_text, called_text, accepted_text, registers_text, sent_text, quiet_text, end_head, end_sense, end_text, progress_text, before_bytes};
+ghost use Rattle.phrases.specs.Phrases.{slashed_text, refused_text, called_text, accepted_text, registers_text, sent_text};
+ghost use Rattle.phrases.specs.Phrases.{quiet_text, end_head, end_sense, end_text, progress_text, before_bytes};
 
 use digits::Text;
 use operations::{Acceptance, Progress, Report, Status};

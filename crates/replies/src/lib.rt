@@ -71,7 +71,8 @@ fn in_block(s: Session, line: Option<Line>, out: &mut Sheet<'_>) -> Session
 }
 
 fn ask(s: Session, call: CallLine, text: &[u8], out: &mut Sheet<'_>) -> Session
-    ensures { (result ≡ (Lines.outside s (Some (Asks call)) text.now).session) × (written out.new ≡ wrote_all (written out.old) (Lines.outside s (Some (Asks call)) text.now).pieces) }
+    ensures { (result ≡ (Lines.outside s (Some (Asks call)) text.now).session)
+        × (written out.new ≡ wrote_all (written out.old) (Lines.outside s (Some (Asks call)) text.now).pieces) }
 {
     let unit = answers::make(s.unit, call, text, out);
     blocks::with_unit(s, unit)

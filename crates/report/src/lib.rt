@@ -1,11 +1,13 @@
 // The report of another maker's log page, for the test bench: its settings as replay's `table` prints them, its faults in words, and how many.
+// Put piece by piece, not by Display and `write!`: `write!` promises what it wrote only where it answers Ok, and no clause of std says that it does.
 #![tactic(auto, using(digits::proofs::Digits::one_by_one))]
 
 ghost use Rattle.std.specs.Prelude.{◌++◌, map, ◌≡◌, ◌<◌, Ok};
 ghost use Rattle.conditions.specs.Conditions.{condition_at};
 ghost use Rattle.digits.specs.Sheets.{written, wrote_all, line_text};
 ghost use Rattle.digits.specs.Texts.{said, cut};
-ghost use Rattle.report.specs.Report.{not_read_text, page_row, row_of, place_text, owner_text, kind_text, fault_text, many_text, total_text, texts_by, report_lines, Reported};
+ghost use Rattle.report.specs.Report.{not_read_text, page_row, row_of, place_text, owner_text, kind_text};
+ghost use Rattle.report.specs.Report.{fault_text, many_text, total_text, texts_by, report_lines, Reported};
 
 use conditions::Condition;
 use digits::{Sheet, Text};

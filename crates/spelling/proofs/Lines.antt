@@ -1,6 +1,5 @@
 -- A block is its lines, one behind the other.
 use mathlib.Core.Path.{◌≡◌}
-use Prim.Native.Nat.{ℕ}
 use Rattle.unit.specs.declared.Unit.{Unit}
 use Rattle.words.specs.Codes.{codes}
 use Rattle.asked.specs.declared.Part.TheVariants.{IsOf, Stands, HasOut}

@@ -1,4 +1,5 @@
 // `show`: a record spelled as the lines of a set-up block.
+// Put piece by piece, not by Display and `write!`: `write!` promises what it wrote only where it answers Ok, and no clause of std says that it does.
 #![tactic(auto, using(digits::proofs::Digits::one_by_one))]
 
 ghost use Rattle.std.specs.Prelude.{◌++◌, ◌≡◌, ◌<◌, get_or};
@@ -8,7 +9,8 @@ ghost use Rattle.asked.specs.Records;
 ghost use Rattle.asked.specs.Records.{settings_of, state_of};
 ghost use Rattle.asked.specs.declared.Part.TheVariants.{HasOut};
 ghost use Rattle.spelling.specs.Spelling;
-ghost use Rattle.spelling.specs.Spelling.{edition_word, letter_word, setting_words, record_words, power_words, state_words, target_word, stage_words, request_words, slot_words, spaced_text, held_words, out_words, row_words, counts_words, part_text, shown};
+ghost use Rattle.spelling.specs.Spelling.{edition_word, letter_word, setting_words, record_words, power_words, state_words, target_word, stage_words};
+ghost use Rattle.spelling.specs.Spelling.{request_words, slot_words, spaced_text, held_words, out_words, row_words, counts_words, part_text, shown};
 
 use asked::{Part, State};
 use conditions::{Cause, Condition, Power};
@@ -43,10 +45,7 @@ fn state_of(u: Unit) -> State
 fn spell_edition(t: Text, edition: Edition) -> Text
     ensures { said result ≡ cut (said t ++ edition_word edition) }
 {
-    match edition {
-        Edition::Draft => t.put_flag(false),
-        Edition::Published => t.put_flag(true),
-    }
+    t.put_flag(edition == Edition::Published)
 }
 
 fn letter_of(c: Condition) -> u8

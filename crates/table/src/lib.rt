@@ -1,5 +1,6 @@
 // The power log for the eye: a row a condition in falling power, then the unit's edition, the marks, the idle count, each host's operation
 // and how often the disk went where.
+// Put piece by piece, not by Display and `write!`: `write!` promises what it wrote only where it answers Ok, and no clause of std says that it does.
 #![tactic(auto, using(digits::proofs::Digits::one_by_one))]
 
 ghost use Rattle.std.specs.Prelude.{◌++◌, ◌≡◌, ◌<◌};
@@ -268,8 +269,8 @@ pub fn put_table(u: Unit, out: &mut Sheet<'_>)
         b"> present ---------------------------------------------------------------- * runs -------------------",
     ));
     out.put_line(active_row(u.drive));
-    for place in 0..5 {
-        out.put_line(record_row(u.drive, place, u.drive.records[place]));
+    for (place, r) in u.drive.records.iter().enumerate() {
+        out.put_line(record_row(u.drive, place, *r));
     }
     out.put_line(edition_line(u.edition));
     out.put_line(flag_line(b"stopped      ", u.stopped));

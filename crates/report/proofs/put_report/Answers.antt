@@ -1,5 +1,5 @@
 -- A report has room in the buffer, so that it stands there whole; the sheet is on that buffer to the end.
-use mathlib.Core.Path.{◌≡◌, sym, ap, ◌∙◌}
+use mathlib.Core.Path.{sym, ap, ◌∙◌}
 use Prim.Native.Nat.{◌≤◌}
 use native.Mathlib.Omega.{arith}
 use lib.ListN.{length}

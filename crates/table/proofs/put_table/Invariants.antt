@@ -7,7 +7,7 @@ use Rattle.table.proofs.Lines.{condition_row}
 use Rattle.table.proofs.put_table.Given as goal
 
 abbrev pub invariant-loop-place : goal.invariant-loop-place
-invariant-loop-place l = AddsAll (written l.initial.out) (condition_row l.u) l.place (written l.out)
+invariant-loop-place l = AddsAll (written l.initial.out) (condition_row l.fn.u) l.place (written l.out)
 
 abbrev pub invariant-loop-host : goal.invariant-loop-host
 invariant-loop-host l = AddsAll (written l.initial.out) (host_text l.u) l.host (written l.out)
