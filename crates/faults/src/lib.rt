@@ -123,6 +123,7 @@ impl Faults {
         ensures { self.new ≡ added self.old (record { kind = kind; place = w }) }
     {
         let n = self.total as usize;
+        // Stays a test and an index: of `get_mut` std does not promise what the list ends as.
         if n < self.listed.len() {
             self.listed[n] = Fault {
                 kind,

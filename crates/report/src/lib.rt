@@ -99,6 +99,7 @@ fn many_line(n: u32) -> Text
     faults.put_either(64 < n, b", of which the first 64 are listed", b"")
 }
 
+// Stays a match: the words of a number, by whether it is none, one or many.
 fn total_line(n: u32) -> Text
     ensures { said result ≡ cut (total_text n) }
 {

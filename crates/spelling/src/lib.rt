@@ -48,6 +48,7 @@ fn spell_edition(t: Text, edition: Edition) -> Text
     t.put_flag(edition == Edition::Published)
 }
 
+// Stays a match: the format's letters, a case for each.
 fn letter_of(c: Condition) -> u8
     ensures { result ≡ Spelling.letter_of c }
 {

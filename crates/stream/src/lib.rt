@@ -9,6 +9,7 @@ ghost use Rattle.stream.specs.Turns.{Turned, Starts, standing_of};
 use blocks::Session;
 use digits::Sheet;
 
+// Stays lengths and places beside buffers: the program owns the buffers, and `go_on` is lent them as arrays.
 // Where a run of a script stands: its session, how many bytes of an unended line are kept, how far `out` is written and the input read.
 #[derive(Clone, Copy)]
 pub struct Run {

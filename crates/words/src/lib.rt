@@ -32,6 +32,7 @@ pub fn without_return(line: &[u8]) -> usize
     line.strip_suffix(b"\r").unwrap_or(line).len()
 }
 
+// Stays a buffer with a length beside it: the program owns the line that it keeps, in fixed memory.
 // Adds bytes to the `len` that `line` has, as many as it has room for, and answers how many it has then.
 pub fn append(line: &mut [u8], len: usize, more: &[u8]) -> usize
     ensures { (take result line.new ≡ take (length line.old) (take len line.old ++ more.now)) × (result ≤ length line.new) }
