@@ -8,4 +8,5 @@ use Rattle.findings.proofs.put_entries.Goals as goal
 
 pub loop-fault-preserved : goal.loop-fault-preserved
 loop-fault-preserved c =
-    c.put_text.ensures ∙ (λ i. wrote (c.loop-fault.invariant i) (c.entry.ensures i)) ∙ wrote_item (written c.args.out.now) entry_text _ c.loop-fault.fault-index _ (omega arith)
+    c.put_text.ensures ∙ (λ i. wrote (c.loop-fault.invariant i) (c.entry.ensures i))
+    ∙ wrote_item (written c.args.out.now) entry_text _ c.loop-fault.fault-index _ (omega arith)

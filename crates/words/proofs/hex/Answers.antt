@@ -8,10 +8,16 @@ use Rattle.words.proofs.Values.{below_more, below_all, not_length, not_digits, t
 use Rattle.words.proofs.hex.Goals as goal
 
 pub returns-then-not-contains : goal.returns-then-not-contains
-returns-then-not-contains c = sym (not_length c.args.top c.args.w.now (within_told (length c.args.w.now) c.contains.result (rw (c.new.ensures.start, c.new.ensures.end, c.new.ensures.exhausted) at c.contains.ensures.value) c.if-not-contains.true))
+returns-then-not-contains c =
+    let asked = rw (c.new.ensures.start, c.new.ensures.end, c.new.ensures.exhausted) at c.contains.ensures.value in
+    let told = within_told (length c.args.w.now) c.contains.result asked c.if-not-contains.true in
+    sym (not_length c.args.top c.args.w.now told)
 
 pub loop-b-init : goal.loop-b-init
-loop-b-init c = ((in_range 1 8 (length c.args.w.now) (within_told (length c.args.w.now) c.contains.result (rw (c.new.ensures.start, c.new.ensures.end, c.new.ensures.exhausted) at c.contains.ensures.value) c.if-not-contains.false)).1, omega arith, refl, refl)
+loop-b-init c =
+    let asked = rw (c.new.ensures.start, c.new.ensures.end, c.new.ensures.exhausted) at c.contains.ensures.value in
+    let told = within_told (length c.args.w.now) c.contains.result asked c.if-not-contains.false in
+    ((in_range 1 8 (length c.args.w.now) told).1, omega arith, refl, refl)
 
 pub overflow_mul-value : goal.overflow_mul-value
 overflow_mul-value c = let small = below_all c.loop-b.value c.loop-b.b-index c.loop-b.invariant.1 (omega arith) in omega (arith, small)
@@ -44,4 +50,6 @@ returns-then-value-top c = let done = no_more c.args.w.now c.loop-b.value c.loop
 pub returns : goal.returns
 returns c = let done = no_more c.args.w.now c.loop-b.value c.loop-b.b-index (omega arith) in
     let all = c.loop-b.invariant.3 ∙ done.1 in
-    sym (rw all at (spelled c.args.top c.args.w.now (within_told (length c.args.w.now) c.contains.result (rw (c.new.ensures.start, c.new.ensures.end, c.new.ensures.exhausted) at c.contains.ensures.value) c.if-not-contains.false) (c.loop-b.invariant.2 ∙ done.0) (rw all c.if-value-top.false)))
+    let asked = rw (c.new.ensures.start, c.new.ensures.end, c.new.ensures.exhausted) at c.contains.ensures.value in
+    let told = within_told (length c.args.w.now) c.contains.result asked c.if-not-contains.false in
+    sym (rw all at (spelled c.args.top c.args.w.now told (c.loop-b.invariant.2 ∙ done.0) (rw all c.if-value-top.false)))
