@@ -4,16 +4,16 @@ use mathlib.Core.Path.{◌≡◌, refl, sym, ap, ◌∙◌}
 use mathlib.Core.Bool.{Bool, true, false, cond}
 use mathlib.Core.List.{List, [], ◌∷◌, ◌++◌, append-nil, append_assoc}
 use Prim.Native.Nat.{ℕ, zero, suc, ◌+◌, ◌-◌, ◌*◌, ◌/◌, ◌%◌, ◌<◌, ◌≤◌, min}
-use native.Mathlib.Numerals.{sub-one}
+use native.Mathlib.Numerals.{add-one, sub-one}
 use native.Mathlib.Omega.{arith}
 use borrow.Author.Tests.{lt-ltb, le-ltb, le-leb, lt-leb}
 use lib.Dec.{ltb}
-use lib.ListN.{length, take, length-append, length-take}
-use lib.Seq.{paste, take_all, take-append-add}
+use lib.ListN.{length, take, set, length-append, length-take}
+use lib.Seq.{paste, take_all, take-append-add, take-append-le, take-suc-set}
 use Rattle.std.proofs.lemmas.List.{take_min, take-take}
 use Rattle.digits.specs.declared.Text.{Text}
 use Rattle.digits.specs.Texts.{said, cut, written_at, after}
-use Rattle.digits.specs.Numerals.{glyph, numeral, pairs, bytes_text, blanks}
+use Rattle.digits.specs.Numerals.{glyph, numeral, pairs, bytes_text, spaces}
 
 -- ---- what a text says
 
@@ -55,14 +55,14 @@ take_back zero m a b h = refl
 take_back n m [] b h = take-take n m b h
 take_back (suc n) m (x ∷ a) b h = ap (◌∷◌ x) (take_back n m a b (omega arith))
 
-take_blanks : (n k : ℕ) → take k (blanks n) ≡ blanks (min n k)
+take_blanks : (n k : ℕ) → take k (spaces n) ≡ spaces (min n k)
 take_blanks n zero = let e : min n 0 ≡ 0 = omega arith in rw e
 take_blanks zero (suc k) = let e : min 0 (suc k) ≡ 0 = omega arith in rw e
 take_blanks (suc n) (suc k) = let e : min (suc n) (suc k) ≡ suc (min n k) = omega arith in rw e (ap (◌∷◌ 32) (take_blanks n k))
 
-pub cut_blanks : (a : List ℕ) (n : ℕ) → cut (a ++ blanks (min n 128)) ≡ cut (a ++ blanks n)
+pub cut_blanks : (a : List ℕ) (n : ℕ) → cut (a ++ spaces (min n 128)) ≡ cut (a ++ spaces n)
 unfolding cut
-cut_blanks a n = rw (← take_blanks n 128) (take_back 128 128 a (blanks n) (omega arith))
+cut_blanks a n = rw (← take_blanks n 128) (take_back 128 128 a (spaces n) (omega arith))
 
 -- by these a text that is put piece by piece says its pieces one after another
 pub ruleset one_by_one = (cut_more, cut_once, append_assoc)
@@ -76,6 +76,21 @@ cut_short bs h = take_all 128 bs h
 pub cut_said : (t : Text) → Whole t → said t ≡ cut (said t ++ [])
 unfolding cut
 cut_said t e = rw append-nil (sym (take_all 128 (said t) (omega (arith, said_length t e))))
+
+-- a text that is full takes no more
+pub put_full : (t : Text) (b : ℕ) → Whole t → 128 ≤ t.len → said t ≡ cut (said t ++ (b ∷ []))
+unfolding cut
+put_full t b e h =
+    let l = said_length t e in
+    rw (take-append-le 128 (said t) (b ∷ []) (omega arith)) (sym (take_all 128 (said t) (omega arith)))
+
+-- any other takes a byte after what it says
+pub put_one : (t : Text) (b : ℕ) → Whole t → t.len < 128
+    → take (t.len + 1) (set t.bytes t.len b) ≡ cut (said t ++ (b ∷ []))
+unfolding cut said
+put_one t b e h =
+    rw (add-one, take-suc-set t.bytes t.len b (omega arith))
+    (sym (take_all 128 (take t.len t.bytes ++ (b ∷ [])) (rw (length-append, length-take) (omega arith))))
 
 -- as many bytes as there is room for stand behind what it says
 pub put_more : (t : Text) (more : List ℕ) (at n : ℕ) → Whole t → at ≡ min t.len 128 → n ≡ min (length more) (128 - at)

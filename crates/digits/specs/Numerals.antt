@@ -33,13 +33,13 @@ abbrev pub bytes_text : List ℕ → List ℕ
 bytes_text [] = code "-" ∷ []
 bytes_text (b ∷ bs) = pairs (b ∷ bs)
 
-abbrev pub blanks : ℕ → List ℕ
-blanks n = replicate n (code " ")
+abbrev pub spaces : ℕ → List ℕ
+spaces n = replicate n (code " ")
 
 -- A text at the right end of a column.
 abbrev pub right_in : ℕ → List ℕ → List ℕ
-right_in width bs = blanks (width - length bs) ++ bs
+right_in width bs = spaces (width - length bs) ++ bs
 
 -- A text with blanks behind it up to a column.
 abbrev pub padded : ℕ → List ℕ → List ℕ
-padded width bs = bs ++ blanks (width - length bs)
+padded width bs = bs ++ spaces (width - length bs)

@@ -3,7 +3,7 @@
 
 ghost use Rattle.std.specs.Prelude.{cond, [], ◌∷◌, ◌++◌, ◌≡◌, ◌+◌, ◌≤◌, ◌<◌, leb, length, take};
 ghost use Rattle.digits.specs.Numerals;
-ghost use Rattle.digits.specs.Numerals.{hex_text, decimal_text, tenths_text, bytes_text, pairs, blanks, right_in, padded};
+ghost use Rattle.digits.specs.Numerals.{hex_text, decimal_text, tenths_text, bytes_text, pairs, spaces, right_in, padded};
 ghost use Rattle.digits.specs.Pieces.{flag_word, number_word, sense_text};
 ghost use Rattle.digits.specs.Sheets.{written, wrote, line_text};
 ghost use Rattle.digits.specs.Texts.{said, cut};
@@ -126,7 +126,7 @@ impl Text {
     }
 
     fn put_blanks(self, n: usize) -> Text
-        ensures { said result ≡ cut (said self ++ blanks n) }
+        ensures { said result ≡ cut (said self ++ spaces n) }
     {
         self.put_all(&[b' '; 128][..n.min(128)])
     }

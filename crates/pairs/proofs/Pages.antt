@@ -2,7 +2,7 @@
 -- a longer one that is cut after, since every pair's word lies on the page.
 use mathlib.Core.Path.{◌≡◌, refl, sym, ap, ◌∙◌}
 use mathlib.Core.Bool.{Bool, true, false, cond, true≢false}
-use mathlib.Core.List.{List, [], ◌∷◌}
+use mathlib.Core.List.{List, [], ◌∷◌, map}
 use Prim.Native.Char.{code}
 use Prim.Native.Nat.{ℕ, suc, ◌+◌, ◌*◌, ◌/◌, ◌%◌, ◌<◌, ◌≤◌}
 use native.Mathlib.Nat.{add-zero}
@@ -10,7 +10,7 @@ use native.Mathlib.Numerals.{add-one}
 use native.Mathlib.Omega.{arith}
 use borrow.Author.Tests.{ne_eqb}
 use lib.Dec.{eqb}
-use lib.ListN.{length, drop, set, take}
+use lib.ListN.{length, drop, length-map, set, take}
 use lib.Seq.{drop-drop, paste, paste-suc, paste-zero, take-set-lt}
 use denote.Ref.{Bor}
 use Rattle.std.proofs.Common.{Option, Some, None, IfSome, MatchOption}
@@ -20,6 +20,7 @@ use Rattle.asked.proofs.Lengths.{take-replicate}
 use Rattle.words.specs.Numbers.{word_number}
 use Rattle.words.proofs.Scans.{Scan}
 use Rattle.words.proofs.Values.{at_most}
+use Rattle.pairs.specs.declared.LinePage.{LinePage}
 use Rattle.pairs.specs.declared.Pair.{Pair}
 use Rattle.pairs.specs.Pairs.{before_equals, pair_in, zeros, with_pair, with_pairs, page_in}
 
@@ -116,3 +117,7 @@ page_set ws n e = rw (e, cut_pairs ws (zeros 0x400), cut_zeros 0x200 (omega arit
 pub page_unset : (ws : List (List ℕ)) (n : ℕ) → (n ≡ 0x200 → ⊥) → n ≤ 0x400 → take n (zeros 0x400) ≡ page_in n ws
 unfolding page_in
 page_unset ws n e h = rw (ne_eqb _ _ e, cut_zeros n h)
+
+-- A page lies within its bytes, whose number is given in the words in which the checker gives it.
+pub page_within : (p : LinePage) → length (map (λ (b : ℕ). b) p.bytes) ≡ 0x400 → p.len ≤ 0x400 → p.len ≤ length p.bytes
+page_within p e h = let whole = rw length-map at e in omega arith
