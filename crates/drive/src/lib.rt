@@ -9,6 +9,7 @@ ghost use Rattle.drive.specs.Inner;
 ghost use Rattle.drive.specs.Records.{largest_timer, setting_well_formed, numbers_well_formed, setting_zero, others_zero, record_well_formed, records_well_formed, drive_well_formed};
 
 use conditions::{Cause, Power};
+use std::array;
 
 // The edition of the standard that the drive follows: e08120r9, the draft, or published ACS-2 (document 02, request (vi)).
 #[derive(Clone, Copy, PartialEq, Eq)]
@@ -268,17 +269,19 @@ pub fn use_unless(d: Drive, kept: bool) -> Drive
     }
 }
 
-fn restored(r: Record) -> Record
-    ensures { result ≡ saved_restored 0 r }
+// A record whose current setting becomes the saved one, unless it is kept.
+fn restored_unless(kept: bool, r: Record) -> Record
+    ensures { result ≡ with_settings r.saved (cond kept r.current r.saved) r }
 {
-    with_settings(r, r.saved, r.saved)
+    with_settings(r, r.saved, rows::pick(kept, r.current, r.saved))
 }
 
 // "current becomes saved for all five", unless they are kept.
 fn restore_unless(kept: bool, records: [Record; 5]) -> [Record; 5]
     ensures { result ≡ cond kept records (map_at saved_restored 0 records) }
 {
-    if kept { records } else { records.map(restored) }
+    // `from_fn`: `map` goes by way of an array of `Option`s, 135 instructions more a power-on.
+    array::from_fn(|place| restored_unless(kept, records[place]))
 }
 
 // Power came on, unless the drive is kept as it is.

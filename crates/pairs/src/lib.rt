@@ -31,6 +31,8 @@ fn equals_at(w: &[u8]) -> usize
     w.iter().position(|b| *b == b'=').unwrap_or(w.len())
 }
 
+// Inlined where a word is tested and where it is read: a call for each word costs a line of pairs a third more time.
+#[inline(always)]
 fn pair_in(w: &[u8]) -> Pair
     ensures { (result ≡ pair_in w.now) × (unwrap_or result.place 0 < 256) × (unwrap_or result.value 0 < 65536) }
 {

@@ -141,16 +141,21 @@ pub fn name_at(line: &[u8], k: usize, names: &[u8]) -> Option<usize>
     place_in(word_at(line, k), names)
 }
 
-// What a hex digit of either case stands for.
+// What a hex digit of either case stands for. Stays tests joined by `&`, of which the compiler makes one each: `match` on the ranges, two branches each,
+// costs `hex` half as much time again.
 fn digit(b: u8) -> Option<u32>
     ensures { result ≡ digit_in b }
 {
-    match b {
-        b'0'..=b'9' => Some((b - b'0') as u32),
-        b'A'..=b'F' => Some((b - b'A') as u32 + 10),
-        b'a'..=b'f' => Some((b - b'a') as u32 + 10),
-        _ => None,
+    if (b'0' <= b) & (b <= b'9') {
+        return Some((b - b'0') as u32);
     }
+    if (b'A' <= b) & (b <= b'F') {
+        return Some((b - b'A') as u32 + 10);
+    }
+    if (b'a' <= b) & (b <= b'f') {
+        return Some((b - b'a') as u32 + 10);
+    }
+    None
 }
 
 // The number that these bytes spell, if it is at most `top`.
