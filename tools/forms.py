@@ -128,7 +128,7 @@ for f, text in files.items():
             seven.append(f"{f}::{name} (tests of k)")
 show(7, "switches on which step or line is meant", seven)
 
-answers = sorted(top.glob("crates/*/proofs/*/*.antt"))
+answers = sorted(top.glob("crates/*/proofs/*/**/*.antt"))
 print(f"\n8 proof files of functions: {len(answers)}, {sum(len(p.read_text().splitlines()) for p in answers)} lines")
 shared = [p for p in sorted(top.glob('crates/*/proofs/*.antt')) if p.name != 'Lib.antt']
 print(f"8 files of shared laws: {len(shared)}, {sum(len(p.read_text().splitlines()) for p in shared)} lines")
